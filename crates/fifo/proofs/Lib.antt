@@ -1,0 +1,4 @@
+-- The laws of the FIFO.
+pub mod Stretch
+pub mod Figures
+pub mod Bounds
