@@ -7,6 +7,7 @@ pub mod Operations
 pub mod Monotone
 pub mod Interval
 pub mod MaxMin
+pub mod MaxAssociative
 pub mod Whole
 pub mod Error
 pub mod Progress
