@@ -1,0 +1,9 @@
+pub mod Kept
+pub mod Cuts
+pub mod Steps
+pub mod Cover
+pub mod Content
+pub mod Figures
+pub mod Collect
+pub mod Turns
+pub mod Bytewise
