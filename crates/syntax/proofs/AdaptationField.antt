@@ -11,11 +11,9 @@ use lib.ListN.{take, drop, getD}
 use borrow.Author.Tests.{lt-ltb}
 use Rattle.syntax.specs.Bits.{bits}
 use Rattle.syntax.specs.Table.{Fields, flag, field, fieldsFrom, offset, offsetFrom}
-use Rattle.syntax.specs.AdaptationField.{hasFlags, extended, table-2-6, pcr, opcr, dtsNextAu}
-use Rattle.syntax.specs.TimeStamp.{stamp33, timestamp}
+use Rattle.syntax.specs.AdaptationField.{hasFlags, extended, table-2-6}
 use Rattle.syntax.proofs.Bits.{byte, within}
 use Rattle.syntax.proofs.Table.{endFrom, absent, place, before, field-from, field-before, none-before, place-from, offset-from}
-use Rattle.syntax.proofs.TimeStamp.{timestamp-drop}
 
 -- The bit behind rows of one condition, and their width.
 abbrev behind : Bool → ℕ → List ℕ → ℕ
@@ -356,16 +354,3 @@ module _ (s : List ℕ) where
   unfolding fieldsFrom table-2-6
   dts-next-au-low =
       in-run 27 "DTS_next_AU[14..0]" (extended "seamless_splice_flag") (4 ∷ 3 ∷ 1 ∷ 15 ∷ 1 ∷ []) 15 (λ o f. refl) seamless-before refl
-
-  -- the clock references and DTS_next_AU, where they are present
-  pub pcr-at : flag "PCR_flag" value ≡ true → pcr s ≡ bits s pcrAt 33 * 300 + bits s (pcrAt + 39) 9
-  unfolding pcr
-  pcr-at h = rw (program-clock-reference-base, program-clock-reference-extension, h)
-
-  pub opcr-at : flag "OPCR_flag" value ≡ true → opcr s ≡ bits s opcrAt 33 * 300 + bits s (opcrAt + 39) 9
-  unfolding opcr
-  opcr-at h = rw (original-program-clock-reference-base, original-program-clock-reference-extension, h)
-
-  pub dts-next-au-at : extended "seamless_splice_flag" value ≡ true → (k : ℕ) → seamlessAt ≡ 8 * k → dtsNextAu s ≡ timestamp (drop k s)
-  unfolding dtsNextAu stamp33
-  dts-next-au-at h k e = rw (dts-next-au-high, dts-next-au-middle, dts-next-au-low, h, e) (sym (timestamp-drop s k))

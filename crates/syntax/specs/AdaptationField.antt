@@ -1,6 +1,6 @@
 -- Table 2-6: the adaptation field (H.222.0, 2.4.3.4), its length byte first. Stuffing behind it is not read.
 -- Later editions name the first of the extension's five reserved bits af_descriptor_not_present_flag; no place here depends on it.
-use Prim.Native.Nat.{ℕ, _+_, _*_}
+use Prim.Native.Nat.{ℕ}
 use Prim.Native.String.{String}
 use mathlib.Core.List.{List, [], _∷_}
 use mathlib.Core.Bool.{Bool}
@@ -51,14 +51,6 @@ table-2-6 =
     ∷ row "DTS_next_AU[14..0]" (extended "seamless_splice_flag") 15
     ∷ row "marker_bit" (extended "seamless_splice_flag") 1
     ∷ []
-
--- a clock reference counts a 27 MHz clock: base × 300 + extension (2.4.2.2)
-unfoldable pub pcr : List ℕ → ℕ
-pcr s = field table-2-6 s "program_clock_reference_base" * 300 + field table-2-6 s "program_clock_reference_extension"
-
-unfoldable pub opcr : List ℕ → ℕ
-opcr s =
-    field table-2-6 s "original_program_clock_reference_base" * 300 + field table-2-6 s "original_program_clock_reference_extension"
 
 unfoldable pub dtsNextAu : List ℕ → ℕ
 dtsNextAu s = stamp33 (field table-2-6 s) "DTS_next_AU[32..30]" "DTS_next_AU[29..15]" "DTS_next_AU[14..0]"
