@@ -1,0 +1,14 @@
+pub mod Rings
+pub mod Settling
+pub mod Inflows
+pub mod Removals
+pub mod Feeding
+pub mod MainSteps
+pub mod SysEvents
+pub mod Counts
+pub mod HeaderMarks
+pub mod VideoTurns
+pub mod VideoAdvance
+pub mod VideoFeeding
+pub mod VideoSteps
+pub mod VideoCounts

@@ -1,0 +1,9 @@
+pub mod Queue
+pub mod CumulativeIn
+pub mod InflowInWork
+pub mod MainBranch
+pub mod MainInWork
+pub mod SysBranch
+pub mod VideoBranch
+pub mod VideoStep
+pub mod VideoInWork
