@@ -1,0 +1,27 @@
+-- The laws of the bounds: arrivals, turns of the leak, transfers, and then the branches. Callers cite Video, Main, Sys, Windows, Figures, Count and MainCount.
+pub mod Arrived
+pub mod Events
+pub mod TurnCases
+pub mod Take
+pub mod Rate
+pub mod ArrivedLater
+pub mod Settled
+pub mod Ahead
+pub mod Header
+pub mod EbIn
+pub mod TimeOf
+pub mod TurnParts
+pub mod Turn
+pub mod Loop
+pub mod Transfer
+pub mod Running
+pub mod Pace
+pub mod Leak
+pub mod Advance
+pub mod Windows
+pub mod Video
+pub mod Main
+pub mod Sys
+pub mod Figures
+pub mod Count
+pub mod MainCount
