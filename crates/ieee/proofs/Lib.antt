@@ -8,6 +8,7 @@ pub mod Monotone
 pub mod Interval
 pub mod MaxMin
 pub mod MaxAssociative
+pub mod MaxCommutes
 pub mod Whole
 pub mod Error
 pub mod Progress

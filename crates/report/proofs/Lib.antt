@@ -4,6 +4,7 @@ pub mod Tags
 pub mod Keys
 pub mod Merge
 pub mod Lines
+pub mod Commute
 pub mod Search
 pub mod Fold
 pub mod Example

@@ -14,7 +14,7 @@ use Rattle.report.proofs.Bools.{true-false, or-left, or-right}
 use Rattle.report.proofs.Keys.{same-key-eq, has-add, has-added, distinct-add, distinct-before}
 use Rattle.report.proofs.Merge.{merge-key, merge-has, merge-assoc}
 
-abbrev keyOfLine : ViolationLine → Key
+abbrev pub keyOfLine : ViolationLine → Key
 keyOfLine l = keyOf (l .violation)
 
 -- ---- the keys: each event's is put at the end where it is new

@@ -20,7 +20,7 @@ use Rattle.report.proofs.Tags.{bytesTags}
 
 -- ---- figures: in bytes, or in seconds
 
-abbrev inBytes? : Figure → Bool
+abbrev pub inBytes? : Figure → Bool
 inBytes? (Bytes n) = true
 inBytes? (Seconds s) = false
 
@@ -74,7 +74,7 @@ sort-kind (EbUnderflow p t x) = refl
 sort-kind (DelayOverOneSecond p t x) = refl
 sort-kind (BsysOverflow x) = refl
 
-same-sort : (a b : TStdViolation) → fieldsOf a .kind ≡ fieldsOf b .kind → inBytes? (fieldsOf b .figure) ≡ inBytes? (fieldsOf a .figure)
+pub same-sort : (a b : TStdViolation) → fieldsOf a .kind ≡ fieldsOf b .kind → inBytes? (fieldsOf b .figure) ≡ inBytes? (fieldsOf a .figure)
 same-sort a b e = sort-kind b ∙ ap (hasKey bytesTags) (sym e) ∙ sym (sort-kind a)
 
 abbrev pub fieldsWith : ViolationFields → Figure → ViolationFields
