@@ -62,13 +62,13 @@ module _ (c : TStdConfig) (whole : length (c .streams) ≡ 8) where
 module _ (c : TStdConfig) where
   -- what events leave: their count and their lines, from those that there were
   record After (fs : List Found) (s : Slots) (after : Slots) : Type 0 where
-    reached : Reached c after
-    counted : countOf after ≡ countOf s + length fs
     lines : linesIn c after ≡ recordLines (linesIn c s) (violationsOf c fs)
+    counted : countOf after ≡ countOf s + length fs
+    reached : Reached c after
 
   all-noted : (fs : List Found) (s : Slots) → Reached c s → Each Legal fs → countOf s + length fs ≤ mostEvents → After fs s (notedFound fs s)
   unfolding notedFound violationsOf recordLines Each
-  all-noted [] s r l m = record { reached = r; counted = omega arith; lines = refl }
+  all-noted [] s r l m = record { lines = refl; counted = omega arith; reached = r }
   all-noted (f ∷ fs) s r l m =
       let e = f .event in
       let k = slotOf (f .chain) e in
@@ -78,9 +78,9 @@ module _ (c : TStdConfig) where
       let step = stepped c s r k (omega arith) high (figureOf e) (decodeOf e) (rw same above) (omega arith) in
       let rest = all-noted fs (noted k (figureOf e) (decodeOf e) s) (step .reached) (l .1) (omega (arith, step .counted)) in
       record {
-        reached = rest .reached;
-        counted = omega (arith, rest .counted, step .counted);
         lines = rest .lines ∙ ap (λ (ls : List ViolationLine). recordLines ls (violationsOf c fs)) (step .lines ∙ ap (recordLine (linesIn c s)) same);
+        counted = omega (arith, rest .counted, step .counted);
+        reached = rest .reached;
       }
 
   violations-length : (fs : List Found) → length (violationsOf c fs) ≡ length fs

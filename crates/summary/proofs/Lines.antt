@@ -6,10 +6,12 @@ use mathlib.Core.List.{List, [], _∷_, map, map-append, append-nil}
 use Prim.Native.Nat.{ℕ, zero, suc, _≤_, _<_}
 use native.Mathlib.Omega.{arith}
 use lib.ListN.{length, getD}
-use lib.Dec.{eqb}
-use lib.Ieee.{Float, binary64}
+use lib.Dec.{T, eqb}
+use lib.Ieee.{Float, binary64, fits, lt}
+use lib.Ieee.Positive.{positive, above-of-le}
 use borrow.Author.Tests.{eqb-true, eqb-false}
 use Rattle.ieee.specs.MaxMin.{maxNum}
+use Rattle.ieee.proofs.Order.{lt→le-any}
 use Rattle.ieee.proofs.MaxCommutes.{max-comm}
 use Rattle.report.specs.declared.violation.TStdViolation.{TStdViolation}
 use Rattle.report.specs.declared.ViolationLine.{ViolationLine}
@@ -40,6 +42,10 @@ module _ (firsts : List ℕ) (f : ℕ → TStdViolation) (n : ℕ) where
 
 above-commutes : (s t : Float) → AboveZero s → AboveZero t → maxNum s t ≡ maxNum t s
 above-commutes s t p q = max-comm binary64 s t (p .0) (q .0) (p .1) (q .1)
+
+-- seconds over a threshold that is above zero
+pub above-threshold : (least s : Float) → T (positive least) → T (lt least s) → T (fits binary64 s) → AboveZero s
+above-threshold least s p h f = (f, above-of-le least s p (lt→le-any least s h))
 
 -- a slot k that has a figure already: the event v merges into its violation, and the other slots keep theirs
 module _ (firsts : List ℕ) (before after : ℕ → TStdViolation) (k : ℕ) (v : TStdViolation)

@@ -4,12 +4,10 @@ use mathlib.Core.Bool.{Bool, true, false, cond, _||_}
 use Prim.Native.Nat.{ℕ, _-_, _/_, _%_, _<_}
 use native.Mathlib.Omega.{arith}
 use lib.ListN.{getD}
-use lib.Dec.{T, ltb, eqb}
-use lib.Ieee.{Float, binary64, fits, lt}
-use lib.Ieee.Positive.{positive, above-of-le}
+use lib.Dec.{ltb, eqb}
+use lib.Ieee.{Float}
 use borrow.Author.Tests.{eq-eqb}
 use Rattle.ieee.specs.MaxMin.{maxNum}
-use Rattle.ieee.proofs.Order.{lt→le-any}
 use Rattle.ieee.proofs.Truncation.{truncation-max}
 use Rattle.ieee.proofs.MaxAssociative.{max-holds}
 use Rattle.report.specs.declared.violation.Figure.{Figure}
@@ -166,10 +164,6 @@ module _ (c : TStdConfig) where
 
 abbrev pub AboveZeroIn : TStdViolation → Type 0
 AboveZeroIn v = FigureHas (λ (n : ℕ). Unit) AboveZero (fieldsOf v .figure)
-
--- seconds over a threshold that is above zero
-pub above-threshold : (least s : Float) → T (positive least) → T (lt least s) → T (fits binary64 s) → AboveZero s
-above-threshold least s p h f = (f, above-of-le least s p (lt→le-any least s h))
 
 overflow-above : (b : TStdBranch) (pid n : ℕ) → AboveZeroIn (overflowIn b pid n)
 unfolding overflowIn fieldsOf

@@ -1,5 +1,5 @@
 -- The violation that an event of a chain is: where and with which fields the Rust's branches and `analyze_tstd` call `record`.
--- Chains 0 to 7 are those of the streams, chain 8 is the system's.
+-- Chains 0 to 7 are those of the streams, chain 8 is the system's (and so would be any past it).
 use Prim.Native.Nat.{ℕ, _+_, _-_, _*_, _/_, _%_}
 use mathlib.Core.Bool.{cond}
 use lib.ListN.{getD}
