@@ -1,4 +1,2 @@
--- The definition of the replay, a chain of it, and what is proved of it.
-pub mod Chain
-pub mod Replay
+-- What is proved of the replay.
 pub mod Demands

@@ -39,7 +39,7 @@ use Rattle.profile.specs.Owner.{ownerOf}
 use Rattle.profile.specs.Work.{checkOf}
 use Rattle.summary.specs.Violation.{systemPid}
 use Rattle.summary.specs.Summary.{Found, found, violationsOf}
-use Rattle.tstd.specs.Chain.{Chain, newChain, packetStep, ChainStep, tbEvents, endStep, statsOf, whole}
+use Rattle.model.specs.Chain.{Chain, newChain, packetStep, ChainStep, tbEvents, endStep, statsOf, whole}
 
 -- the streams of a configuration, by which a recording is read
 abbrev pub streamsRead : TStdConfig → Streams

@@ -1,0 +1,2 @@
+-- What is proved of the replay's definition.
+pub mod Refusals

@@ -1,0 +1,3 @@
+-- The definition of the replay, and of a chain of it.
+pub mod Chain
+pub mod Replay

@@ -1,0 +1,2 @@
+-- What a packet delivers from the transport buffer.
+pub mod Arrive
