@@ -16,7 +16,7 @@ use Rattle.events.specs.Event.{Event, tbOverflow, tbBusy, when}
 use Rattle.branch.specs.declared.Delivered.{Delivered}
 use Rattle.branch.specs.MainBranch.{Main, newMain, mainStep}
 use Rattle.branch.specs.VideoStep.{VideoChain, newVideo, videoStep}
-use Rattle.transport.specs.Arrive.{float, nothing, arrive}
+use Rattle.transport.specs.Arrive.{float, stampTime, nothing, arrive}
 use Rattle.report.specs.declared.TStdChainStats.{TStdChainStats}
 use Rattle.profile.specs.declared.model.TStdBranch.{TStdBranch}
 use Rattle.profile.specs.declared.config.TStdStream.{TStdStream}
@@ -60,8 +60,9 @@ pub record ChainStep : Type 0 where
 -- a packet
 unfoldable pub packetStep : TStdStream → ℕ → TsPacket → Runs → Float → Float → RateInterval → Chain → ChainStep
 packetStep s depth h r t0 t1 i c =
-    let x = stepBranch (s .model .branch) depth (arrive (c .tb) h r t0 t1 i .delivered) false t0 (c .branch) in
-    record { full = x .full; chain = record { tb = arrive (c .tb) h r t0 t1 i .tb; branch = x .branch }; events = x .events }
+    let y = arrive (c .tb) (h .«payload_start») r t0 t1 (stampTime i (r .«decode_ts»)) in
+    let x = stepBranch (s .model .branch) depth (y .delivered) false t0 (c .branch) in
+    record { full = x .full; chain = record { tb = y .tb; branch = x .branch }; events = x .events }
 
 -- the transport buffer's rules, looked at a single time when the packets are through
 unfoldable pub tbEvents : FluidFifo → List Event

@@ -6,7 +6,6 @@ use lib.Dec.{eqb}
 use lib.IntN.{pos}
 use lib.Ieee.{Float, binary64, ofInt}
 use Rattle.ieee.specs.Binary64.{_⊕_, _⊖_, _⊗_, _⊘_, -∞, 0f, 188f}
-use Rattle.packet.specs.declared.TsPacket.{TsPacket}
 use Rattle.scanner.specs.declared.DecodeTs.{DecodeTs}
 use Rattle.scanner.specs.declared.Runs.{Runs}
 use Rattle.arrival.specs.declared.RateInterval.{RateInterval}
@@ -36,7 +35,7 @@ through tb from to len =
       run = record { t0 = pushed tb from to (float len) .start; t1 = pushed tb from to (float len) .end; bytes = float len };
     })
 
--- the time of a stamp by the interval of the packet's end; -∞ for none
+-- the decode time of a stamp by the interval of the packet's end; -∞ for none
 abbrev pub stampTime : RateInterval → DecodeTs → Float
 stampTime i DecodeTs.Absent = -∞
 stampTime i (DecodeTs.At raw) = decodeTime i raw
@@ -51,12 +50,10 @@ nothing =
     record { «decode_time» = -∞; «first_input_time» = 0f; head = none; rest = none; body = none }
 
 -- header and adaptation bytes, then each run; an empty payload goes in as 188
-module _ (tb : FluidFifo) (h : TsPacket) (r : Runs) (t0 t1 : Float) (i : RateInterval) where
+-- a: where the payload begins; decode: the stamp's time
+module _ (tb : FluidFifo) (a : ℕ) (r : Runs) (t0 t1 decode : Float) where
   abbrev at : ℕ → Float
   at k = frac t0 t1 k
-
-  abbrev a : ℕ
-  a = h .«payload_start»
 
   abbrev b : ℕ
   b = a + r .head
@@ -78,11 +75,11 @@ module _ (tb : FluidFifo) (h : TsPacket) (r : Runs) (t0 t1 : Float) (i : RateInt
 
   unfoldable pub arrive : Arrived
   arrive =
-      cond (eqb (h .«payload_start») 188) (record { tb = pushed tb t0 t1 188f .fifo; delivered = nothing })
+      cond (eqb a 188) (record { tb = pushed tb t0 t1 188f .fifo; delivered = nothing })
       (record {
         tb = body .tb;
         delivered = record {
-          «decode_time» = stampTime i (r .«decode_ts»);
+          «decode_time» = decode;
           «first_input_time» = at a;
           head = head .run;
           rest = rest .run;

@@ -1,0 +1,2 @@
+-- What a replay answers.
+pub mod Answer
