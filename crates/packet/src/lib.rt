@@ -710,8 +710,8 @@ pub fn detect_packet_layout(buf: &[u8]) -> Detected
     Detected::Nothing
 }
 
-// The 188 bytes from a place on; none where the recording ends sooner.
-fn window_at(bytes: &[u8], from: usize) -> &[u8]
+// The 188 bytes from a place on; none where the recording ends sooner. Rules out a shorter part at the recording's end, and one that begins elsewhere.
+pub fn window_at(bytes: &[u8], from: usize) -> &[u8]
     ensures { λ r. ⌜ now r ≡ cond (leb (from + 188) (length (now (bytes .entry)))) (take 188 (drop from (now (bytes .entry)))) [] ⌝ }
 {
     let len = bytes.len();

@@ -1,0 +1,2 @@
+-- The laws of `header`.
+pub mod Headers
