@@ -9,10 +9,9 @@ use Rattle.ieee.specs.Binary64.{_⊖_, -∞, +∞, 0f, 188f}
 use Rattle.ieee.specs.MaxMin.{maxNum, minNum}
 use Rattle.error.specs.declared.Refusal.{Refusal}
 use Rattle.packet.specs.declared.TsPacket.{TsPacket}
-use Rattle.packet.specs.declared.Parse.{Parse}
 use Rattle.packet.specs.declared.Detected.{Detected}
 use Rattle.scanner.specs.declared.Runs.{Runs}
-use Rattle.recording.specs.Read.{Streams, Fact, unparsed, parsed, Read}
+use Rattle.recording.specs.Read.{Streams, Fact, unparsed, parsed, parseIn, Read}
 use Rattle.arrival.specs.declared.RateInterval.{RateInterval}
 use Rattle.arrival.specs.declared.Sample.{Sample}
 use Rattle.arrival.specs.ArrivalClock.{Built, intervals, refused, build}
@@ -203,11 +202,7 @@ replayFrom c clock samples k [] s =
 replayFrom c clock samples k (f ∷ fs) s =
     orFull k (factStep c clock (188 * k) f s) (λ (s' : State). replayFrom c clock samples (suc k) fs s')
 
--- ---- pass 1, on the packets as they parsed (how a parse failed does not enter)
-abbrev pub parseIn : Fact → Parse
-parseIn unparsed = Parse.BadSyncByte 0
-parseIn (parsed h r) = Parse.Packet h
-
+-- ---- pass 1, on the packets as they parsed
 abbrev pub samplesRead : TStdConfig → Read → List Sample
 samplesRead c r = samplesOf (c .«pcr_pid») (map parseIn (r .facts))
 

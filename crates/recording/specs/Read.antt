@@ -27,6 +27,11 @@ pub data Fact : Type 0 where
   unparsed : Fact
   parsed : TsPacket → Runs → Fact
 
+-- the parse that a fact tells of; how a parse failed does not enter
+abbrev pub parseIn : Fact → Parse
+parseIn unparsed = Parse.BadSyncByte 0
+parseIn (parsed h r) = Parse.Packet h
+
 -- the recording's length in bytes, its layout, and a fact for each whole packet, in their order
 pub record Read : Type 0 where
   pub size : ℕ
