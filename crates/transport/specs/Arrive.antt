@@ -1,7 +1,7 @@
 -- What a packet delivers from the transport buffer TBn: its header and adaptation bytes, then each run of its payload go through the buffer
 -- (the Rust's loop over packets in `analyze_tstd`, for one stream).
 use Prim.Native.Nat.{ℕ, _+_}
-use mathlib.Core.Bool.{Bool, true, false, cond}
+use mathlib.Core.Bool.{cond}
 use lib.Dec.{eqb}
 use lib.IntN.{pos}
 use lib.Ieee.{Float, binary64, ofInt}
@@ -14,6 +14,7 @@ use Rattle.fifo.specs.declared.FluidFifo.{FluidFifo}
 use Rattle.fifo.specs.FluidFifo.{pushed}
 use Rattle.branch.specs.declared.Run.{Run}
 use Rattle.branch.specs.declared.Delivered.{Delivered}
+use Rattle.transport.specs.declared.Through.{Through}
 
 abbrev pub float : ℕ → Float
 float n = ofInt binary64 (pos n)
@@ -22,14 +23,13 @@ float n = ofInt binary64 (pos n)
 unfoldable pub frac : Float → Float → ℕ → Float
 frac t0 t1 k = t0 ⊕ (t1 ⊖ t0) ⊗ float k ⊘ 188f
 
-pub record Through : Type 0 where
-  pub tb : FluidFifo
-  pub run : Run
+abbrev pub noRun : Run
+noRun = record { t0 = 0f; t1 = 0f; bytes = 0f }
 
 -- a run of len bytes goes through the transport buffer; one of no bytes is none
 unfoldable pub through : FluidFifo → Float → Float → ℕ → Through
 through tb from to len =
-    cond (eqb len 0) (record { tb = tb; run = record { t0 = 0f; t1 = 0f; bytes = 0f } })
+    cond (eqb len 0) (record { tb = tb; run = noRun })
     (record {
       tb = pushed tb from to (float len) .fifo;
       run = record { t0 = pushed tb from to (float len) .start; t1 = pushed tb from to (float len) .end; bytes = float len };
@@ -45,27 +45,19 @@ pub record Arrived : Type 0 where
   pub delivered : Delivered
 
 abbrev pub nothing : Delivered
-nothing =
-    let none : Run = record { t0 = 0f; t1 = 0f; bytes = 0f } in
-    record { «decode_time» = -∞; «first_input_time» = 0f; head = none; rest = none; body = none }
+nothing = record { «decode_time» = -∞; «first_input_time» = 0f; head = noRun; rest = noRun; body = noRun }
 
--- header and adaptation bytes, then each run; an empty payload goes in as 188
--- a: where the payload begins; decode: the stamp's time
-module _ (tb : FluidFifo) (a : ℕ) (r : Runs) (t0 t1 decode : Float) where
-  abbrev at : ℕ → Float
-  at k = frac t0 t1 k
-
+-- the runs of a payload that begins at byte a, one behind the other
+-- tb: the buffer behind the header bytes; at: when a byte of the packet comes; decode: the stamp's time
+module _ (tb : FluidFifo) (a : ℕ) (r : Runs) (at : ℕ → Float) (decode : Float) where
   abbrev b : ℕ
   b = a + r .head
 
   abbrev c : ℕ
   c = b + r .rest
 
-  abbrev header : FluidFifo
-  header = pushed tb t0 (at a) (float a) .fifo
-
   abbrev head : Through
-  head = through header (at a) (at b) (r .head)
+  head = through tb (at a) (at b) (r .head)
 
   abbrev rest : Through
   rest = through (head .tb) (at b) (at c) (r .rest)
@@ -73,10 +65,9 @@ module _ (tb : FluidFifo) (a : ℕ) (r : Runs) (t0 t1 decode : Float) where
   abbrev body : Through
   body = through (rest .tb) (at c) (at (c + r .body)) (r .body)
 
-  unfoldable pub arrive : Arrived
-  arrive =
-      cond (eqb a 188) (record { tb = pushed tb t0 t1 188f .fifo; delivered = nothing })
-      (record {
+  abbrev pub delivery : Arrived
+  delivery =
+      record {
         tb = body .tb;
         delivered = record {
           «decode_time» = decode;
@@ -85,4 +76,11 @@ module _ (tb : FluidFifo) (a : ℕ) (r : Runs) (t0 t1 decode : Float) where
           rest = rest .run;
           body = body .run;
         };
-      })
+      }
+
+-- header and adaptation bytes, then each run; an empty payload goes in as 188
+-- a: where the payload begins; decode: the stamp's time
+unfoldable pub arrive : FluidFifo → ℕ → Runs → Float → Float → Float → Arrived
+arrive tb a r t0 t1 decode =
+    cond (eqb a 188) (record { tb = pushed tb t0 t1 188f .fifo; delivered = nothing })
+    (delivery (pushed tb t0 (frac t0 t1 a) (float a) .fifo) a r (frac t0 t1) decode)

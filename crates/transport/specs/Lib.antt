@@ -1,2 +1,3 @@
--- What a packet delivers from the transport buffer.
+-- What a packet delivers from the transport buffer, and the code's answers by it.
 pub mod Arrive
+pub mod Transport
