@@ -157,7 +157,7 @@ module _ {L n q p a A : ℕ} (w : Reach n A L) (latest : latestTime ≤ A) (call
   -- up to a unit's decode time, and its removal
   module _ (u : AccessUnit) (us : List AccessUnit) (v : Video) (b : VideoIn L n q p a v) (k : ℕ) (i : UnitIs u k) (l : Units q us (b .removed + k))
       (many : v .units + suc (length us) ≤ p) where
-    decode-in : UpTo A (u .«decode_time»)
+    pub decode-in : UpTo A (u .«decode_time»)
     decode-in = widen-at earliestTime A (i .decode) (lit≤ tt) latest
 
     leak-then : Running n L (a + v .units + 1) (leakUntil r (u .«decode_time») (v .leak))
@@ -172,7 +172,7 @@ module _ {L n q p a A : ℕ} (w : Reach n A L) (latest : latestTime ≤ A) (call
     delay-more : In zero-float (maxNum (v .maxDelay) (u .«decode_time» ⊖ u .«first_input_time»)) (plain delayLimit)
     delay-more = max-keeps (b .delay) (age-in i)
 
-    after-removal : VideoIn L n q p a (removeUnit (leakedTo r (u .«decode_time») v) u us)
+    pub after-removal : VideoIn L n q p a (removeUnit (leakedTo r (u .«decode_time») v) u us)
     unfolding removeUnit withRemoved
     after-removal =
         let s = leakUntil r (u .«decode_time») (v .leak) in

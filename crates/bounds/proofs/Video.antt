@@ -238,7 +238,7 @@ module _ {n q p a : ℕ} (r : VideoRates) (t : Float) (v : Video) (g : RatesIn r
   loop-same k h = turns-same r t budget k (on (v .leak)) h loop-ends
 
 -- ---- the end
-wider : {n q p a : ℕ} {v : Video} → VideoBounded n q p a v → VideoIn lastLimit n q p a v
+pub wider : {n q p a : ℕ} {v : Video} → VideoBounded n q p a v → VideoIn lastLimit n q p a v
 wider {n} {q} {p} {a} {v} b =
     record {
       few = b .few;
@@ -272,7 +272,7 @@ drain-in {n} r v g b =
     let d = div-in binary64 zero-float (plain leakTime) (is-in (v .queued) n 0 (2 ^ 24) (b .queued) zero-le (b .few)) (g .rbx) tt in
     add-in binary64 (minus earliestTime) (plain drainLimit) (add-in binary64 zero-float (plain (procLimit + leakTime)) m d tt) (closed-in zero-float 2f (plain 2) tt) tt
 
-drain-fits : (r : VideoRates) (v : Video) → T (fits binary64 (drainTime r v))
+pub drain-fits : (r : VideoRates) (v : Video) → T (fits binary64 (drainTime r v))
 unfolding drainTime
 drain-fits r v = add-fits binary64 ((maxNum (v .leak .procTime) 0f) ⊕ (v .queued ⊘ r .rbx)) 2f
 
