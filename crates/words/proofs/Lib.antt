@@ -1,0 +1,9 @@
+pub mod NotANumber
+pub mod UpTo
+pub mod Profile
+pub mod Stores
+pub mod Row
+pub mod Report
+pub mod Told
+pub mod Counted
+pub mod ReadBack
