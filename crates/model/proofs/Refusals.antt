@@ -21,7 +21,7 @@ use Rattle.profile.specs.declared.work.Checked.{Checked}
 use Rattle.profile.specs.Work.{checkOf}
 use Rattle.model.specs.Replay.{Outcome, accepted, refusedWith, State, Ran, running, full, orFull, endsFrom, factStep, replayFrom, replay, withCheck, withLayout, withClock, samplesRead, streamsRead}
 
-read-size : (s : Streams) (l : List ℕ) (d : Detected) → readBy d s l .size ≡ length l
+pub read-size : (s : Streams) (l : List ℕ) (d : Detected) → readBy d s l .size ≡ length l
 unfolding readBy readAt
 read-size s l (Detected.Found y) = refl
 read-size s l Detected.Nothing = refl

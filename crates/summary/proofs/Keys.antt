@@ -41,11 +41,11 @@ has-there j ks k h = rw h (or-true (sameKey j k))
     or-true true = refl
     or-true false = refl
 
-has-right : (js ks : List Key) (k : Key) → hasKey ks k ≡ true → hasKey (js ++ ks) k ≡ true
+pub has-right : (js ks : List Key) (k : Key) → hasKey ks k ≡ true → hasKey (js ++ ks) k ≡ true
 has-right [] ks k h = h
 has-right (j ∷ js) ks k h = has-there j (js ++ ks) k (has-right js ks k h)
 
-has-left : (js ks : List Key) (k : Key) → hasKey js k ≡ true → hasKey (js ++ ks) k ≡ true
+pub has-left : (js ks : List Key) (k : Key) → hasKey js k ≡ true → hasKey (js ++ ks) k ≡ true
 unfolding hasKey
 has-left [] ks k h = true-false (sym h)
 has-left (j ∷ js) ks k h = by-test (sameKey j k) h (has-left js ks k)
@@ -72,7 +72,7 @@ unfolding underflowIn keyOf fieldsOf
 underflow-key (Main size) pid t n = refl
 underflow-key (Video rbx mb eb) pid t n = refl
 
-stream-key : (s : TStdStream) (e : Event) → hasKey (streamKeys s) (keyOf (streamViolation s e)) ≡ true
+pub stream-key : (s : TStdStream) (e : Event) → hasKey (streamKeys s) (keyOf (streamViolation s e)) ≡ true
 unfolding streamKeys streamViolation keyOf fieldsOf
 stream-key s (overflow b) = has-at (streamKeys s) 0 (key 0 0) _ (omega arith) (sym (overflow-key (s .model .branch) (s .pid) _))
 stream-key s (underflow t b) = has-at (streamKeys s) 1 (key 0 0) _ (omega arith) (sym (underflow-key (s .model .branch) (s .pid) t _))
@@ -81,7 +81,7 @@ stream-key s (tbOverflow b) = has-at (streamKeys s) 3 (key 0 0) _ (omega arith) 
 stream-key s (tbBusy d) = has-at (streamKeys s) 4 (key 0 0) _ (omega arith) refl
 stream-key s (mbBusy d) = has-at (streamKeys s) 5 (key 0 0) _ (omega arith) refl
 
-system-key : (pid : ℕ) (e : Event) → hasKey (systemKeys pid) (keyOf (systemViolation pid e)) ≡ true
+pub system-key : (pid : ℕ) (e : Event) → hasKey (systemKeys pid) (keyOf (systemViolation pid e)) ≡ true
 unfolding systemViolation keyOf fieldsOf
 system-key pid (overflow b) = has-at (systemKeys pid) 0 (key 0 0) _ (omega arith) refl
 system-key pid (underflow t b) = has-at (systemKeys pid) 0 (key 0 0) _ (omega arith) refl
@@ -92,13 +92,13 @@ system-key pid (mbBusy d) = has-at (systemKeys pid) 0 (key 0 0) _ (omega arith) 
 
 -- ---- the keys of a configuration
 
-in-streams : (ss : List TStdStream) (i : ℕ) (k : Key) → i < length ss → hasKey (streamKeys (getD ss i unusedStream)) k ≡ true → hasKey (keysOfStreams ss) k ≡ true
+pub in-streams : (ss : List TStdStream) (i : ℕ) (k : Key) → i < length ss → hasKey (streamKeys (getD ss i unusedStream)) k ≡ true → hasKey (keysOfStreams ss) k ≡ true
 unfolding keysOfStreams
 in-streams [] i k l h = absurd (omega arith)
 in-streams (s ∷ ss) zero k l h = has-left (streamKeys s) (keysOfStreams ss) k h
 in-streams (s ∷ ss) (suc i) k l h = has-right (streamKeys s) (keysOfStreams ss) k (in-streams ss i k (omega arith) h)
 
-streams-length : (ss : List TStdStream) → length (keysOfStreams ss) ≡ 6 * length ss
+pub streams-length : (ss : List TStdStream) → length (keysOfStreams ss) ≡ 6 * length ss
 unfolding keysOfStreams streamKeys
 streams-length [] = refl
 streams-length (s ∷ ss) = rw (length-append (streamKeys s) (keysOfStreams ss)) (omega (arith, streams-length ss))
