@@ -1,0 +1,209 @@
+//! The Rust and our library in one process on the same bytes, in turn, the least of many runs. Our call zeroes the
+//! work that it is lent; that is part of its time and is also timed apart. Every figure names depth and streams.
+
+use crate::expect;
+use crate::ffi::{self, Memory};
+use crate::generate::{Writer, head, pcr_packet, stamp_bytes};
+use crate::rng::Rng;
+use crate::rules;
+use crate::rust;
+use crate::streams;
+use crate::words::*;
+use oracle::tstd::analyze_tstd;
+use std::hint::black_box;
+use std::time::{Duration, Instant};
+
+const SECOND: u64 = 27_000_000;
+
+struct Input {
+    name: String,
+    bytes: Vec<u8>,
+    profile: Profile,
+}
+
+fn video(pid: u16, rx: u64, rbx: u64, mb: u64, eb: u64) -> Stream {
+    Stream { pid, rx, branch: Branch::Video { rbx, mb, eb } }
+}
+
+/// Stamped units on `videos` video PIDs, one audio PID if there is one, system packets and a PCR every 40 packets.
+fn made_up(megabytes: usize, videos: u16, audio: bool, queue_depth: usize) -> Input {
+    let mut p = Profile { pcr_pid: 256, queue_depth, clock_depth: 3_000, system: vec![0, 1, 4096], ..Profile::default() };
+    p.streams.extend((0..videos).map(|k| video(300 + k, 24_000_000, 20_000_000, 26_000, 1_250_000)));
+    if audio {
+        p.streams.push(Stream { pid: 400, rx: 2_000_000, branch: Branch::Main { size: 3_584 } });
+    }
+    let mut bytes = Vec::new();
+    let mut rng = Rng::new(megabytes as u64);
+    let mut w = Writer { out: &mut bytes, layout: (188, 0), filler: 0 };
+    let rate = 2_000_000 * videos.max(1) as u64;
+    for k in 0..(megabytes << 20) / 188 {
+        let now = k as u64 * 188 * SECOND / rate;
+        let packet = if k % 40 == 0 {
+            pcr_packet(256, now, false)
+        } else if k % 200 == 7 {
+            head(4096, true, 1, 0)
+        } else {
+            let pid = if audio && k % 20 == 3 { 400 } else { 300 + (k as u16) % videos.max(1) };
+            let start = rng.one_in(if pid == 400 { 4 } else { 60 });
+            let mut packet = head(pid, start, 1, k as u8);
+            if start {
+                packet[4..13].copy_from_slice(&[0, 0, 1, 0xe0, 0, 0, 0x80, 0x80, 5]);
+                let ahead = if pid == 400 { 9_000 } else { 27_000 };
+                packet[13..18].copy_from_slice(&stamp_bytes(2, (now / 300 + ahead) % (1 << 33)));
+            }
+            packet
+        };
+        w.put(&packet, &mut rng);
+    }
+    Input { name: format!("made-up, {megabytes} MB"), bytes, profile: p }
+}
+
+/// Header bytes only into an EB of two bytes: about a turn of the leak a byte. The one payload byte waits in the
+/// transport buffer behind a burst and is removed when `stamp` says; removed just as it begins to come in, it leaves
+/// room for little more than one byte from then on.
+fn header_only(megabytes: usize, stamp: u64, rbx: u64, name: &str) -> Input {
+    let mut p = Profile { pcr_pid: 256, queue_depth: 8_192, clock_depth: 3_000, ..Profile::default() };
+    p.streams.push(video(300, 9_000, rbx, 1 << 30, 2));
+    let mut bytes = Vec::new();
+    let mut rng = Rng::new(1);
+    let mut w = Writer { out: &mut bytes, layout: (188, 0), filler: 0 };
+    let burst = 40 * 188 * 27;
+    for k in 0..(megabytes << 20) / 188 {
+        let packet = match k {
+            0 => pcr_packet(256, 0, false),
+            _ if k % 40 == 0 => pcr_packet(256, burst + (k as u64 - 40) * 188 * SECOND / 1_010, false),
+            37 => short_unit(stamp, 1),
+            38 => short_unit((1 << 32) - 1, 0),
+            0..40 => head(8191, false, 1, 0),
+            _ => {
+                let mut packet = head(300, true, 1, k as u8);
+                packet[4..13].copy_from_slice(&[0, 0, 1, 0xe0, 0, 0, 0x80, 0, 255]);
+                packet
+            }
+        };
+        w.put(&packet, &mut rng);
+    }
+    Input { name: format!("{name}, {megabytes} MB"), bytes, profile: p }
+}
+
+/// A packet of PID 300 that ends with a stamped header and this many payload bytes.
+fn short_unit(stamp: u64, payload: usize) -> [u8; 188] {
+    let mut packet = head(300, true, 3, 0);
+    let unit = 174 - payload;
+    (packet[4], packet[5]) = (unit as u8 - 5, 0);
+    packet[unit..unit + 9].copy_from_slice(&[0, 0, 1, 0xe0, 0, 0, 0x80, 0x80, 5]);
+    packet[unit + 9..unit + 14].copy_from_slice(&stamp_bytes(2, stamp));
+    packet
+}
+
+struct Times {
+    rust: f64,
+    ours: f64,
+    runs: u32,
+}
+
+/// Least seconds of each side, in turn, for at least `least` runs and about `budget`.
+fn alternate(input: &Input, m: &mut Memory, least: u32, budget: Duration) -> Result<Times, String> {
+    let words = input.profile.words();
+    let lent = Lengths::exact(input.profile.needed());
+    let want = expect::expected(&input.bytes, &words, lent)?;
+    if want.answer != 0 {
+        return Err(format!("bench, {}: {}", input.name, answer_text(want.answer)));
+    }
+    expect::check(&input.bytes, &words, lent, 1, m, &want).map_err(|e| format!("bench, {}: {e}", input.name))?;
+    let config = rust::config(&input.profile);
+    let mut t = Times { rust: f64::INFINITY, ours: f64::INFINITY, runs: 0 };
+    let begun = Instant::now();
+    while t.runs < least || begun.elapsed() < budget {
+        let start = Instant::now();
+        let report = analyze_tstd(black_box(&input.bytes), black_box(&config));
+        t.rust = t.rust.min(start.elapsed().as_secs_f64());
+        drop(black_box(report));
+        let start = Instant::now();
+        black_box(ffi::replay(black_box(&input.bytes), black_box(&words), m));
+        t.ours = t.ours.min(start.elapsed().as_secs_f64());
+        t.runs += 1;
+    }
+    Ok(t)
+}
+
+fn show(input: &Input, t: &Times) {
+    let size = rules::layout(&input.bytes).map_or(188, |g| g.0);
+    let packets = (input.bytes.len() / size) as f64;
+    println!(
+        "  {}: Rust {:.1} ns a packet, ours {:.1}, Rust/ours {:.2} ({} packets, {} runs each; {})",
+        input.name,
+        t.rust * 1e9 / packets,
+        t.ours * 1e9 / packets,
+        t.rust / t.ours,
+        packets,
+        t.runs,
+        input.profile.about()
+    );
+}
+
+/// Zeroing apart: the same memory filled by this program, and our call on two packets that it refuses by 5 after it
+/// has zeroed the work.
+fn zeroing(m: &mut Memory) {
+    println!("  zeroing the work, least of 200:");
+    let mut two = vec![0u8; 376];
+    (two[0], two[188]) = (0x47, 0x47);
+    for (queue_depth, streams) in [(128, 2), (128, 8), (8_192, 2), (8_192, 8)] {
+        let mut p = Profile { pcr_pid: 256, queue_depth, clock_depth: 3_000, ..Profile::default() };
+        p.streams.extend((0..streams).map(|k| video(300 + k, 8_000_000, 8_000_000, 1_000, 1_000)));
+        let needed = p.needed();
+        m.prepare(Lengths::exact(needed), 1);
+        let words = p.words();
+        let (mut fill, mut call) = (f64::INFINITY, f64::INFINITY);
+        for _ in 0..200 {
+            let start = Instant::now();
+            black_box(m.times.get_mut()).fill(0);
+            black_box(m.places.get_mut()).fill(0);
+            fill = fill.min(start.elapsed().as_secs_f64());
+            let start = Instant::now();
+            black_box(ffi::replay(black_box(&two), black_box(&words), m));
+            call = call.min(start.elapsed().as_secs_f64());
+        }
+        println!(
+            "    queue depth {queue_depth}, {streams} streams, clock depth 3000: {} bytes, a plain fill {:.1} µs, our refused call {:.1} µs",
+            8 * (needed.times + needed.places),
+            fill * 1e6,
+            call * 1e6
+        );
+    }
+}
+
+pub fn run(quick: bool) -> Result<(), String> {
+    println!("bench: both sides in one process, in turn, the least of the runs. Recordings, work, row and report were");
+    println!("touched before the first timed run; nothing is cleared between runs but what our call itself zeroes.");
+    let mut m = Memory::default();
+    let budget = Duration::from_millis(if quick { 300 } else { 3_000 });
+    let sizes: &[usize] = if quick { &[1] } else { &[1, 4, 16] };
+    let mut inputs = Vec::new();
+    for depth in [128, 8_192] {
+        inputs.extend(sizes.iter().map(|n| made_up(*n, 1, true, depth)));
+    }
+    inputs.extend(sizes.iter().map(|n| made_up(*n, 8, false, 8_192)));
+    for input in &inputs {
+        show(input, &alternate(input, &mut m, 5, budget)?);
+    }
+    if let Ok(list) = streams::all() {
+        for real in list.into_iter().filter(|r| r.bytes.len() > 2_000_000) {
+            let mut cuts: Vec<usize> = sizes.iter().map(|n| n << 20).filter(|n| *n < real.bytes.len()).collect();
+            cuts.push(real.bytes.len());
+            for cut in cuts {
+                let name = format!("{}, first {cut} bytes", real.name);
+                let input = Input { name, bytes: real.bytes[..cut].to_vec(), profile: real.profile.clone() };
+                show(&input, &alternate(&input, &mut m, 5, budget)?);
+            }
+        }
+    }
+    // The first tick at which the payload byte has begun to come into EB; a tick earlier it blocks EB for good.
+    for (rbx, stamp) in [(1_000_000_000, 15_586), (8_000_000, 15_587)] {
+        let name = format!("EB of 2 bytes, headers only, Rbx {rbx} bit/s");
+        let input = header_only(*sizes.last().unwrap(), stamp, rbx, &name);
+        show(&input, &alternate(&input, &mut m, 3, budget)?);
+    }
+    zeroing(&mut m);
+    Ok(())
+}
