@@ -1,0 +1,3 @@
+-- The laws from the core's answer to what is lent.
+pub mod Figures
+pub mod Lent
