@@ -1,0 +1,2 @@
+-- What a call of the C boundary answers.
+pub mod Exports

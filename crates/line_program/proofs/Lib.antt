@@ -1,0 +1,2 @@
+-- The laws of the line program.
+pub mod Line

@@ -1,0 +1,2 @@
+-- The output of the line program.
+pub mod Output
