@@ -1,24 +1,7 @@
-//! Our library through its C boundary. A slice is a pointer and a length. The lent memory lies between guard words,
+//! Our library through the wrapper of its C boundary. The lent memory lies between guard words,
 //! and what a call may not touch is looked at afterwards.
 
 use crate::words::*;
-
-unsafe extern "C" {
-    fn tstd_replay(
-        bytes: *const u8,
-        bytes_len: usize,
-        profile: *const u64,
-        profile_len: usize,
-        times: *mut f64,
-        times_len: usize,
-        places: *mut u64,
-        places_len: usize,
-        row: *mut u64,
-        row_len: usize,
-        report: *mut u64,
-        report_len: usize,
-    ) -> u64;
-}
 
 const GUARD: usize = 8;
 
@@ -92,23 +75,9 @@ impl Memory {
 /// One call of our replay.
 pub fn replay(bytes: &[u8], profile: &[u64], m: &mut Memory) -> u64 {
     let times = m.times.get_mut();
-    let (times, times_len) = (times.as_mut_ptr().cast::<f64>(), times.len());
+    // SAFETY: the words of a live slice, read as floats of the same size and alignment.
+    let times = unsafe { std::slice::from_raw_parts_mut(times.as_mut_ptr().cast::<f64>(), times.len()) };
     let (places, row, report) = (m.places.get_mut(), m.row.get_mut(), m.report.get_mut());
-    // SAFETY: each pair is a live slice of this process, no two overlap, and the library keeps none of them.
-    unsafe {
-        tstd_replay(
-            bytes.as_ptr(),
-            bytes.len(),
-            profile.as_ptr(),
-            profile.len(),
-            times,
-            times_len,
-            places.as_mut_ptr(),
-            places.len(),
-            row.as_mut_ptr(),
-            row.len(),
-            report.as_mut_ptr(),
-            report.len(),
-        )
-    }
+    let a = tstd::replay_words(bytes, profile, times, places, row, report);
+    u64::from(a.number) | u64::from(a.pid) << 8 | a.place << 24
 }

@@ -36,6 +36,13 @@ fn output(program: &str, bytes: &[u8]) -> Result<String, String> {
     String::from_utf8(out.stdout).map_err(|e| format!("{program}: {e}"))
 }
 
+/// What the line program must write for a file.
+pub fn print(file: &str) -> Result<(), String> {
+    let bytes = std::fs::read(file).map_err(|e| format!("{file}: {e}"))?;
+    print!("{}", wanted(&bytes)?);
+    Ok(())
+}
+
 pub fn run(program: &str, seed: u64, count: u64) -> Result<(), String> {
     let words = line_profile().words();
     let mut progress = Progress::new("line", count);

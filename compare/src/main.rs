@@ -28,7 +28,7 @@ mod words;
 use std::process::ExitCode;
 
 const USAGE: &str = "usage: compare COMMAND [--seed N] [--count N] [--quick]
-  fuzz [--part] | figures | limits | blind | streams | damage | leaves | line PROGRAM | all [--no-streams]
+  fuzz [--part] | figures | limits | blind | streams | damage | leaves | line PROGRAM | lines FILE | all [--no-streams]
   bench | one FILE.profile FILE.ts | sample FILE";
 
 /// `--name value` among the arguments, or a default.
@@ -58,6 +58,7 @@ fn run(args: &[String]) -> Result<(), String> {
         "all" => all(seed, quick, !args.iter().any(|a| a == "--no-streams")),
         "leaves" => leaves::run(seed, option(args, "--count", 1_000_000)?),
         "line" if args.len() > 1 => line::run(&args[1], seed, option(args, "--count", 2_000)?),
+        "lines" if args.len() == 2 => line::print(&args[1]),
         "one" if args.len() == 3 => fuzz::one(&args[1], &args[2]),
         _ => Err(USAGE.to_string()),
     }
@@ -83,7 +84,9 @@ fn main() -> ExitCode {
     let args: Vec<String> = std::env::args().skip(1).collect();
     match run(&args) {
         Ok(()) => {
-            println!("compare: no difference");
+            if args[0] != "lines" {
+                println!("compare: no difference");
+            }
             ExitCode::SUCCESS
         }
         Err(e) => {
