@@ -32,7 +32,8 @@ extern "C" {
 #define TSTD_VIDEO 1
 
 /*
- * The work, whose contents before and after say nothing:
+ * The work. What it held before does not enter an answer; numbers 1 to 4 leave it as it was, any other answer leaves
+ * zeros in so many first entries and the rest as it was:
  *   times   8 * queue depth * streams + 3 * clock depth
  *   places  2 * clock depth
  */

@@ -77,10 +77,11 @@ pub fn pair(case: &Case, rng: &mut Rng, m: &mut Memory) -> Result<(bool, usize, 
 
 /// Parts of real streams, each with other content.
 fn real(seed: u64, count: u64, m: &mut Memory) -> Result<(), String> {
-    let Ok(list) = streams::all() else {
+    let list = streams::all().unwrap_or_default();
+    if list.is_empty() {
         println!("  no real streams here");
         return Ok(());
-    };
+    }
     let mut alike = 0;
     for k in 0..count {
         let mut rng = Rng::new(seed.wrapping_add(k) ^ 0x4ea1);
