@@ -1,17 +1,25 @@
-// Links our static library: TSTD_LIB, or what `rt staticlib exports` writes in the repository.
+// Links our static library: TSTD_LIB, or what `rt staticlib exports` writes in the repository; with the feature `leaves` also
+// LEAVES_LIB, or what `rt staticlib leaves` writes there.
 use std::env;
 use std::path::PathBuf;
 
+fn link(variable: &str, name: &str) {
+    println!("cargo:rerun-if-env-changed={variable}");
+    let here = PathBuf::from(env::var("CARGO_MANIFEST_DIR").unwrap());
+    let lib = here.join(env::var(variable).unwrap_or(format!("../target/staticlib/lib{name}.a")));
+    let lib = lib
+        .canonicalize()
+        .unwrap_or_else(|e| panic!("{}: {e}; run `rt staticlib {name}` in the repository, or set {variable}", lib.display()));
+    println!("cargo:rerun-if-changed={}", lib.display());
+    println!("cargo:rustc-link-arg-bins={}", lib.display());
+}
+
 fn main() {
-    println!("cargo:rerun-if-env-changed=TSTD_LIB");
     if env::var_os("CARGO_FEATURE_STANDIN").is_some() {
         return;
     }
-    let here = PathBuf::from(env::var("CARGO_MANIFEST_DIR").unwrap());
-    let lib = here.join(env::var("TSTD_LIB").unwrap_or("../target/staticlib/libexports.a".to_string()));
-    let lib = lib
-        .canonicalize()
-        .unwrap_or_else(|e| panic!("{}: {e}; run `rt staticlib exports` in the repository, or set TSTD_LIB", lib.display()));
-    println!("cargo:rerun-if-changed={}", lib.display());
-    println!("cargo:rustc-link-arg-bins={}", lib.display());
+    link("TSTD_LIB", "exports");
+    if env::var_os("CARGO_FEATURE_LEAVES").is_some() {
+        link("LEAVES_LIB", "leaves");
+    }
 }

@@ -469,7 +469,7 @@ pub fn run(seed: u64, count: u64) -> Result<(), String> {
     let asked = cfg!(feature = "leaves");
     println!("leaves: seed {seed}, {count} inputs each");
     if !asked {
-        println!("  OUR LIBRARY IS NOT ASKED: build with --features leaves once it exports them");
+        println!("  OUR LIBRARY IS NOT ASKED: build with --features leaves");
     }
     for id in 0..=255 {
         same(|| format!("optional header of {id:02x}"), ours::optional_header(id), theirs::has_optional_pes_header(id))?;
