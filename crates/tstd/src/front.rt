@@ -39,7 +39,7 @@ pub(crate) fn note_tb(tb: FluidFifo, firsts: &mut [u64; 64], figures: &mut [f64;
     );
 }
 
-// A packet of the stream that arrives at a; w are its bytes. At the stream's end its transport buffer is looked at, and nothing arrives.
+// A packet of the stream, which arrives at a; window has its bytes. At the stream's end its transport buffer is looked at, and nothing arrives.
 pub(crate) fn front(
     f: Transport,
     window: &[u8],

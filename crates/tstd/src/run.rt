@@ -27,6 +27,7 @@ pub struct Ran {
     pub figures: [f64; 128],
 }
 
+// One function, since the arrays of chains must stay in the one that has the loop: handed to a step they would be copied whole for each packet.
 pub(crate) fn run(
     config: TStdConfig,
     bytes: &[u8],
