@@ -11,7 +11,7 @@ ghost use mathlib.Core.Path.{_≡_};
 ghost use Prim.Native.Nat.{_+_, _-_, _*_, _^_, _<_};
 ghost use lib.ListN.{length};
 ghost use Rattle.clock.specs.Pcr.{pcrModulus};
-ghost use Rattle.arrival.specs.ArrivalClock.{float, seconds, anchorAt, stepTo, intervalAt, close};
+ghost use Rattle.arrival.specs.ArrivalClock.{seconds, anchorAt, stepTo, intervalAt, close};
 ghost use Rattle.arrival.specs.Times.{noInterval, timeOf, decodeTimeOrZero};
 ghost use Rattle.arrival.specs.Samples.{ticksOf};
 ghost use Rattle.arrival.specs.Work.{holds, intervalIn, nowhereAt, cursorAt, advance, startOfArrival, nextArrival};
@@ -89,16 +89,6 @@ pub struct PacketArrival {
 // Behind every position: there is no next interval.
 const NEVER: u64 = u64::MAX;
 
-// A count as a float: below 2^31 in one instruction.
-fn as_float(n: u64) -> f64
-    ensures { λ r. ⌜ r ≡ float n ⌝ }
-{
-    if n < 0x8000_0000 {
-        return (n as i32) as f64;
-    }
-    std::num::nearest_u64_to_f64(n)
-}
-
 fn holds_intervals(n: usize, times: &[f64], from: usize, places: &[u64]) -> bool
     ensures { λ r. ⌜ r ≡ holds n (now (times .entry)) from (now (places .entry)) ⌝ }
 {
@@ -165,7 +155,7 @@ impl Anchor {
         requires { ⌜ (sample .ticks < 2 ^ 63) × (self .extended < 2 ^ 63) ⌝ }
         ensures { λ r. ⌜ r ≡ close n self sample ⌝ }
     {
-        let bytes = as_float(saturating_sub(sample.position, self.position));
+        let bytes = ieee::as_float(saturating_sub(sample.position, self.position));
         if sample.marked {
             if n == 1 {
                 return Closed::Refuses(Refusal::DiscontinuityBeforeRate { sample: n });
@@ -473,9 +463,9 @@ impl RateInterval {
         ensures { λ r. ⌜ r ≡ timeOf self pos ⌝ }
     {
         if self.start_pos <= pos {
-            return self.start_time + as_float(pos - self.start_pos) / self.rate;
+            return self.start_time + ieee::as_float(pos - self.start_pos) / self.rate;
         }
-        self.start_time - as_float(self.start_pos - pos) / self.rate
+        self.start_time - ieee::as_float(self.start_pos - pos) / self.rate
     }
 
     // Ruled out: the stamp in its first epoch; the offset added before the division.

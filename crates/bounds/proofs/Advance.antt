@@ -12,7 +12,7 @@ use lib.Ieee.Fits.{add-fits}
 use lib.ListN.{length}
 use Rattle.ieee.specs.Binary64.{0f, 1f, _⊕_, _⊖_, -∞}
 use Rattle.ieee.specs.Interval.{In, minus, plain, zero-float}
-use Rattle.ieee.specs.MaxMin.{maxNum, minNum}
+use Rattle.ieee.specs.MaxMin.{maxOf, minOf}
 use Rattle.ieee.specs.Units.{pos-units}
 use Rattle.ieee.specs.Whole.{Is}
 use Rattle.ieee.proofs.Growth.{widen-at}
@@ -78,7 +78,7 @@ module _ {n L e : ℕ} (w : n ≤ byteLimit) (he : e ≤ turnLimit) (s : Leak) (
   x-in : In (plain 0) x (plain (2 ^ 24))
   x-in = is-in x m 0 (2 ^ 24) i zero-le few
 
-  removed-in : TransferIn n e (record { marks = s .flow .marks; transferred = s .flow .transferred; ebIn = s .flow .ebIn; ebRemoved = minNum x (s .flow .ebIn); ebPeak = s .flow .ebPeak })
+  removed-in : TransferIn n e (record { marks = s .flow .marks; transferred = s .flow .transferred; ebIn = s .flow .ebIn; ebRemoved = minOf x (s .flow .ebIn); ebPeak = s .flow .ebPeak })
   unfolding le lt eq
   removed-in =
       let p = q .parts .flow in
@@ -93,7 +93,7 @@ module _ {n L e : ℕ} (w : n ≤ byteLimit) (he : e ≤ turnLimit) (s : Leak) (
         eb-low = p .eb-low;
         eb-high = p .eb-high;
         removed = z;
-        removed-high = fl-trans (minNum x (s .flow .ebIn)) x (plain (2 ^ 25)) (in-finite z) (in-finite x-in) tt (min-le-l x (s .flow .ebIn) (in-self x-in)) (widen-high (plain (2 ^ 25)) x-in tt .high);
+        removed-high = fl-trans (minOf x (s .flow .ebIn)) x (plain (2 ^ 25)) (in-finite z) (in-finite x-in) tt (min-le-l x (s .flow .ebIn) (in-self x-in)) (widen-high (plain (2 ^ 25)) x-in tt .high);
         removed-fits = min-fits x (s .flow .ebIn) fx (p .eb-fits);
         peak = p .peak;
       }
@@ -169,7 +169,7 @@ module _ {L n q p a A : ℕ} (w : Reach n A L) (latest : latestTime ≤ A) (call
     few-whole : b .removed + k ≤ byteLimit
     few-whole = le-trans (units-within l) (b .units-few)
 
-    delay-more : In zero-float (maxNum (v .maxDelay) (u .«decode_time» ⊖ u .«first_input_time»)) (plain delayLimit)
+    delay-more : In zero-float (maxOf (v .maxDelay) (u .«decode_time» ⊖ u .«first_input_time»)) (plain delayLimit)
     delay-more = max-keeps (b .delay) (age-in i)
 
     pub after-removal : VideoIn L n q p a (removeUnit (leakedTo r (u .«decode_time») v) u us)

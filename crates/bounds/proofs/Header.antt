@@ -15,12 +15,12 @@ use lib.IntN.{pos}
 use lib.ListN.{length}
 use Rattle.ieee.specs.Binary64.{0f, _⊕_, _⊖_}
 use Rattle.ieee.specs.Interval.{In, minus, plain, zero-float}
-use Rattle.ieee.specs.MaxMin.{maxNum, minNum}
+use Rattle.ieee.specs.MaxMin.{maxOf, minOf}
 use Rattle.ieee.specs.Units.{neg-units, pos-units, scale, ulp}
 use Rattle.ieee.specs.Whole.{Is}
 use Rattle.ieee.proofs.Growth.{add-at, sub-at, widen-at}
-use Rattle.ieee.proofs.Interval.{in-finite, in-self, widen-low}
-use Rattle.ieee.proofs.MaxMin.{max-in, max-is, max-l, max-r, min-in, min-l, min-r}
+use Rattle.ieee.proofs.Interval.{in-finite, widen-low}
+use Rattle.ieee.proofs.MaxMin.{max-in, max-l, max-r, min-in, min-l, min-r}
 use Rattle.ieee.proofs.Order.{le-trans as fl-trans, nlt→le, to-not}
 use Rattle.ieee.proofs.Sign.{add-nonneg, sub-le}
 use Rattle.ieee.proofs.Units.{add-units, den-scale, high→units, le→units, sub-units, units→high}
@@ -80,34 +80,34 @@ module _ (M j : ℕ) (w : T (ltb (M + 1 + M) (2 ^ j) && ltb j (emax binary64))) 
     thr-in : Upto (m .threshold)
     thr-in = is-in _ (a + k) 0 M (q .threshold) (omega arith) top
 
-    p-in : Upto (maxNum start (m .threshold ⊖ m .bytes))
+    p-in : Upto (maxOf start (m .threshold ⊖ m .bytes))
     p-in = max-in start (is .high) rs-in
 
-    q-in : Upto (minNum end (m .threshold))
+    q-in : Upto (minOf end (m .threshold))
     q-in = min-in _ (ie .low) thr-in
 
     abbrev d : Float
-    d = (minNum end (m .threshold)) ⊖ (maxNum start (m .threshold ⊖ m .bytes))
+    d = (minOf end (m .threshold)) ⊖ (maxOf start (m .threshold ⊖ m .bytes))
 
-    wide-q : In (minus (M + 1)) (minNum end (m .threshold)) (plain (M + 1))
+    wide-q : In (minus (M + 1)) (minOf end (m .threshold)) (plain (M + 1))
     unfolding le lt eq
     wide-q = widen-at (M + 1) (M + 1) (widen-low (minus 0) q-in tt) (omega arith) (omega arith)
 
-    wide-p : In (minus M) (maxNum start (m .threshold ⊖ m .bytes)) (plain M)
+    wide-p : In (minus M) (maxOf start (m .threshold ⊖ m .bytes)) (plain M)
     unfolding le lt eq
     wide-p = widen-at M M (widen-low (minus 0) p-in tt) (omega arith) (omega arith)
 
     d-in : In (minus (M + 1 + M)) d (plain (M + 1 + M))
     d-in = sub-at binary64 (pos 0) tt wide-q wide-p small small
 
-    q-fits : T (fits binary64 (minNum end (m .threshold)))
+    q-fits : T (fits binary64 (minOf end (m .threshold)))
     q-fits = min-fits end (m .threshold) fe (q .fit)
 
-    p-fits : T (fits binary64 (maxNum start (m .threshold ⊖ m .bytes)))
+    p-fits : T (fits binary64 (maxOf start (m .threshold ⊖ m .bytes)))
     p-fits = max-fits binary64 start (m .threshold ⊖ m .bytes) fs (sub-fits binary64 (m .threshold) (m .bytes))
 
     abbrev o : Float
-    o = maxNum d 0f
+    o = maxOf d 0f
 
     -- what the overlap is, by the sign of the difference
     pub record OverlapIn (x : Float) : Type 0 where
@@ -115,26 +115,26 @@ module _ (M j : ℕ) (w : T (ltb (M + 1 + M) (2 ^ j) && ltb j (emax binary64))) 
       pub high : T (le x (plain M))
       pub finite' : T (finite x)
       pub fit : T (fits binary64 x)
-      pub size : (pos-units binary64 x ≤ E) ⊎ (pos-units binary64 x + pos-units binary64 (maxNum start (m .threshold ⊖ m .bytes)) ≤ pos-units binary64 (minNum end (m .threshold)) + E)
+      pub size : (pos-units binary64 x ≤ E) ⊎ (pos-units binary64 x + pos-units binary64 (maxOf start (m .threshold ⊖ m .bytes)) ≤ pos-units binary64 (minOf end (m .threshold)) + E)
 
     overlap-by : (b : Bool) → lt d 0f ≡ b → OverlapIn (cond b 0f d)
     unfolding ofBits le lt eq
     overlap-by true e =
-        record { low = tt; high = fl-trans zero-float (minNum end (m .threshold)) (plain M) tt (in-finite q-in) tt (q-in .low) (q-in .high); finite' = tt; fit = zero-fit; size = inl (none-in E) }
+        record { low = tt; high = fl-trans zero-float (minOf end (m .threshold)) (plain M) tt (in-finite q-in) tt (q-in .low) (q-in .high); finite' = tt; fit = zero-fit; size = inl (none-in E) }
     overlap-by false e =
         let z = nlt→le d zero-float (in-finite d-in) tt (to-not e) in
         let s = sub-units binary64 j (M + 1) M wide-q wide-p q-fits p-fits w in
         record {
           low = z;
-          high = fl-trans d (minNum end (m .threshold)) (plain M) (in-finite d-in) (in-finite q-in) tt (sub-le binary64 (minNum end (m .threshold)) (maxNum start (m .threshold ⊖ m .bytes)) (in-finite q-in) (in-finite p-in) q-fits (p-in .low)) (q-in .high);
+          high = fl-trans d (minOf end (m .threshold)) (plain M) (in-finite d-in) (in-finite q-in) tt (sub-le binary64 (minOf end (m .threshold)) (maxOf start (m .threshold ⊖ m .bytes)) (in-finite q-in) (in-finite p-in) q-fits (p-in .low)) (q-in .high);
           finite' = in-finite d-in;
-          fit = sub-fits binary64 (minNum end (m .threshold)) (maxNum start (m .threshold ⊖ m .bytes));
+          fit = sub-fits binary64 (minOf end (m .threshold)) (maxOf start (m .threshold ⊖ m .bytes));
           size = inr (gap-step _ _ _ _ _ _ E (neg-units-zero _ (in-finite q-in) (q-in .low)) (neg-units-zero _ (in-finite p-in) (p-in .low)) (neg-units-zero d (in-finite d-in) z) (s .high-end));
         }
 
     pub overlap-in : OverlapIn (overlap m start end)
-    unfolding overlap
-    overlap-in = rw (max-is d 0f (in-self d-in)) (overlap-by (lt d 0f) refl)
+    unfolding overlap maxOf
+    overlap-in = overlap-by (lt d 0f) refl
 
 -- ---- along the marks
 -- h is the sum so far, over i marks; what is passed, in units, lies at `mark`
@@ -194,7 +194,7 @@ module _ (M j K : ℕ) (w : T (ltb (M + 1 + M) (2 ^ j) && ltb j (emax binary64))
 
   module _ (m : HeaderMark) (a k : ℕ) (q : MarkIs m a k) (top : a + k ≤ M) (lo i : ℕ) (h : Float) (low : lo ≤ a) (few : i + 1 ≤ K) (f : PartialSum M (ulp binary64 j) start end lo h i) where
     abbrev gp : ℕ
-    gp = pos-units binary64 (maxNum start (m .threshold ⊖ m .bytes))
+    gp = pos-units binary64 (maxOf start (m .threshold ⊖ m .bytes))
 
     start-p : pos-units binary64 start ≤ gp
     start-p =
@@ -220,17 +220,17 @@ module _ (M j K : ℕ) (w : T (ltb (M + 1 + M) (2 ^ j) && ltb j (emax binary64))
     later (inl x) = inl x
     later (inr x) = inr (le-trans x (mul-le-mul-right (2 ^ 1074) (omega arith)))
 
-    q-end : pos-units binary64 (minNum end (m .threshold)) ≤ pos-units binary64 end
+    q-end : pos-units binary64 (minOf end (m .threshold)) ≤ pos-units binary64 end
     q-end =
         let qi = q-in M j w small start end is ie fs fe m a k q top in
         less-of _ _ _ _ (neg-units-zero _ (in-finite qi) (qi .low)) (neg-units-zero end (in-finite ie) (ie .low))
         (le→units binary64 _ end (in-finite qi) (in-finite ie) (q-fits M j w small start end is ie fs fe m a k q top) fe (min-l ie (thr-in M j w small start end is ie fs fe m a k q top)))
 
-    q-thr : pos-units binary64 (minNum end (m .threshold)) ≤ (a + k) * 2 ^ 1074
+    q-thr : pos-units binary64 (minOf end (m .threshold)) ≤ (a + k) * 2 ^ 1074
     q-thr =
         let qi = q-in M j w small start end is ie fs fe m a k q top in
         let ti = thr-in M j w small start end is ie fs fe m a k q top in
-        subst (λ (y : ℕ). pos-units binary64 (minNum end (m .threshold)) ≤ y) (whole-units _ (a + k) (q .threshold) (q .fit))
+        subst (λ (y : ℕ). pos-units binary64 (minOf end (m .threshold)) ≤ y) (whole-units _ (a + k) (q .threshold) (q .fit))
         (less-of _ _ _ _ (neg-units-zero _ (in-finite qi) (qi .low)) (neg-units-zero _ (in-finite ti) (ti .low))
         (le→units binary64 _ _ (in-finite qi) (in-finite ti) (q-fits M j w small start end is ie fs fe m a k q top) (q .fit) (min-r ie ti)))
 
@@ -249,13 +249,13 @@ module _ (M j K : ℕ) (w : T (ltb (M + 1 + M) (2 ^ j) && ltb j (emax binary64))
         sum-step _ _ _ _ _ _ _ (neg-units-zero h (in-finite hi) (hi .low)) (neg-units-zero _ (in-finite overlap-bounds) (overlap-bounds .low))
         (neg-units-zero _ (in-finite z) (add-nonneg binary64 h _ (in-finite hi) (in-finite overlap-bounds) (hi .low) (overlap-bounds .low))) (u .high-end)
 
-    step-by : (pos-units binary64 (overlap m start end) ≤ ulp binary64 j) ⊎ (pos-units binary64 (overlap m start end) + pos-units binary64 (maxNum start (m .threshold ⊖ m .bytes)) ≤ pos-units binary64 (minNum end (m .threshold)) + ulp binary64 j)
+    step-by : (pos-units binary64 (overlap m start end) ≤ ulp binary64 j) ⊎ (pos-units binary64 (overlap m start end) + pos-units binary64 (maxOf start (m .threshold ⊖ m .bytes)) ≤ pos-units binary64 (minOf end (m .threshold)) + ulp binary64 j)
         → PartialSum M (ulp binary64 j) start end (a + k) (h ⊕ (overlap m start end)) (i + 1)
     step-by (inl x) =
         close-in h (overlap m start end) (a + k) (i + 1) (f .mark) (f .h-in) (the-overlap .low) overlap-bounds (later (f .at)) (f .top) few
         (small-step _ _ _ _ _ _ _ (ulp binary64 j) sum-in x (f .sum) (one-more i (ulp binary64 j)))
     step-by (inr x) =
-        close-in h (overlap m start end) (a + k) (i + 1) (pos-units binary64 (minNum end (m .threshold))) (f .h-in) (the-overlap .low) overlap-bounds (inr q-thr) q-end few
+        close-in h (overlap m start end) (a + k) (i + 1) (pos-units binary64 (minOf end (m .threshold))) (f .h-in) (the-overlap .low) overlap-bounds (inr q-thr) q-end few
         (large-step _ _ _ _ _ _ (f .mark) _ _ (ulp binary64 j) sum-in x (before-p (f .at)) (f .sum) (one-more i (ulp binary64 j)))
 
     pub mark-step : PartialSum M (ulp binary64 j) start end (a + k) (h ⊕ (overlap m start end)) (i + 1)

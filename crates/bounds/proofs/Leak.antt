@@ -9,7 +9,7 @@ use lib.Ieee.{Float, binary64, eq, fin, fits, inf, le, lt, nan}
 use lib.Ieee.Scale.{finite}
 use Rattle.ieee.specs.Binary64.{1e-6f, 1f, _⊖_, -∞}
 use Rattle.ieee.specs.Interval.{In, minus, plain, zero-float}
-use Rattle.ieee.specs.MaxMin.{maxNum}
+use Rattle.ieee.specs.MaxMin.{maxOf}
 use Rattle.ieee.specs.Progress.{Over, take-advance}
 use Rattle.ieee.specs.Units.{pos-units}
 use Rattle.ieee.proofs.Growth.{widen-at}
@@ -86,17 +86,17 @@ module _ {n A L : ℕ} (w : Reach n A L) (r : VideoRates) (t : Float) (g : Rates
           ahead = later-ahead t t-in (fl-refl t (in-finite c)) b;
         }
 
-    longest-closed : In zero-float (cond (eq (s .busySince) -∞) (s .longestBusy) (maxNum (s .longestBusy) (t ⊖ s .busySince))) (plain busyLimit)
+    longest-closed : In zero-float (cond (eq (s .busySince) -∞) (s .longestBusy) (maxOf (s .longestBusy) (t ⊖ s .busySince))) (plain busyLimit)
     longest-closed = go (eq (s .busySince) -∞) refl
       where
-        go : (b : Bool) → eq (s .busySince) -∞ ≡ b → In zero-float (cond b (s .longestBusy) (maxNum (s .longestBusy) (t ⊖ s .busySince))) (plain busyLimit)
+        go : (b : Bool) → eq (s .busySince) -∞ ≡ b → In zero-float (cond b (s .longestBusy) (maxOf (s .longestBusy) (t ⊖ s .busySince))) (plain busyLimit)
         go true z = q .parts .longest
         go false z = max-keeps (q .parts .longest) (stretch-in w t (s .busySince) c (since-some (q .parts .since) z))
 
     pub closed-running : Running n L e (closed s t)
     unfolding closed settle
     closed-running =
-        let m : UpTo L (maxNum (s .procTime) t) = max-in (s .procTime) (q .time .high) t-in in
+        let m : UpTo L (maxOf (s .procTime) t) = max-in (s .procTime) (q .time .high) t-in in
         record {
           parts = record {
             inflow = settled-inflow;
@@ -107,7 +107,7 @@ module _ {n A L : ℕ} (w : Reach n A L) (r : VideoRates) (t : Float) (g : Rates
           };
           time = m;
           time-fits = max-fits binary64 (s .procTime) t (q .time-fits) f;
-          ahead = later-ahead (maxNum (s .procTime) t) m (max-r (q .time) c) (max-l (q .time) c);
+          ahead = later-ahead (maxOf (s .procTime) t) m (max-r (q .time) c) (max-l (q .time) c);
         }
 
   -- ---- a turn

@@ -11,7 +11,7 @@ use lib.Ieee.Fits.{add-fits, sub-fits}
 use lib.Ieee.Scale.{finite}
 use Rattle.ieee.specs.Binary64.{0f, 1f, _⊕_, _⊖_}
 use Rattle.ieee.specs.Interval.{In, minus, plain, zero-float}
-use Rattle.ieee.specs.MaxMin.{maxNum, minNum}
+use Rattle.ieee.specs.MaxMin.{maxOf, minOf}
 use Rattle.ieee.specs.Units.{pos-units, ulp}
 use Rattle.ieee.proofs.Growth.{widen-at}
 use Rattle.ieee.proofs.Interval.{closed-in, in-finite, in-self, le-in, sub-in, widen-low}
@@ -41,28 +41,28 @@ module _ (arr room : Float) (i : In (minus (2 ^ 47)) arr (plain (2 ^ 47))) (q : 
   unfolding ofBits le lt eq
   room-in = record { low-finite = tt; high-finite = in-finite q; low = tt; high = fl-trans 0f (plain 1) room tt tt (in-finite q) tt (q .low) }
 
-  take-in : In (minus (2 ^ 47)) (minNum arr (maxNum room 0f)) room
+  take-in : In (minus (2 ^ 47)) (minOf arr (maxOf room 0f)) room
   unfolding le lt eq
   take-in = min-in arr (i .low) (widen-low (minus (2 ^ 47)) (max-in room (fl-refl room (in-finite q)) room-in) tt)
 
-  pub go-room : In zero-float (maxNum (minNum arr (maxNum room 0f)) 0f) room
-  go-room = max-in (minNum arr (maxNum room 0f)) (take-in .high) room-in
+  pub go-room : In zero-float (maxOf (minOf arr (maxOf room 0f)) 0f) room
+  go-room = max-in (minOf arr (maxOf room 0f)) (take-in .high) room-in
 
-  pub go-arriving : (pos-units binary64 (maxNum (minNum arr (maxNum room 0f)) 0f) ≡ 0) ⊎ T (le (maxNum (minNum arr (maxNum room 0f)) 0f) arr)
+  pub go-arriving : (pos-units binary64 (maxOf (minOf arr (maxOf room 0f)) 0f) ≡ 0) ⊎ T (le (maxOf (minOf arr (maxOf room 0f)) 0f) arr)
   unfolding ofBits pos-units
-  go-arriving = go (max-or (minNum arr (maxNum room 0f)) 0f)
+  go-arriving = go (max-or (minOf arr (maxOf room 0f)) 0f)
     where
-      go : (maxNum (minNum arr (maxNum room 0f)) 0f ≡ minNum arr (maxNum room 0f)) ⊎ (maxNum (minNum arr (maxNum room 0f)) 0f ≡ 0f)
-          → (pos-units binary64 (maxNum (minNum arr (maxNum room 0f)) 0f) ≡ 0) ⊎ T (le (maxNum (minNum arr (maxNum room 0f)) 0f) arr)
-      go (inl e) = inr (subst (λ (y : Float). T (le y arr)) (sym e) (min-le-l arr (maxNum room 0f) (in-self i)))
+      go : (maxOf (minOf arr (maxOf room 0f)) 0f ≡ minOf arr (maxOf room 0f)) ⊎ (maxOf (minOf arr (maxOf room 0f)) 0f ≡ 0f)
+          → (pos-units binary64 (maxOf (minOf arr (maxOf room 0f)) 0f) ≡ 0) ⊎ T (le (maxOf (minOf arr (maxOf room 0f)) 0f) arr)
+      go (inl e) = inr (subst (λ (y : Float). T (le y arr)) (sym e) (min-le-l arr (maxOf room 0f) (in-self i)))
       go (inr e) = inl (ap (λ (y : Float). pos-units binary64 y) e)
 
   -- so it is at most 2 ^ 26 where that is
-  pub go-few : T (le arr (plain (2 ^ 26))) → In zero-float (maxNum (minNum arr (maxNum room 0f)) 0f) (plain (2 ^ 26))
+  pub go-few : T (le arr (plain (2 ^ 26))) → In zero-float (maxOf (minOf arr (maxOf room 0f)) 0f) (plain (2 ^ 26))
   unfolding ofBits le lt eq
   go-few h =
       let z : In zero-float 0f (plain (2 ^ 26)) = closed-in zero-float 0f (plain (2 ^ 26)) tt in
-      max-in (minNum arr (maxNum room 0f)) (fl-trans (minNum arr (maxNum room 0f)) arr (plain (2 ^ 26)) (in-finite take-in) (in-finite i) tt (min-le-l arr (maxNum room 0f) (in-self i)) h) z
+      max-in (minOf arr (maxOf room 0f)) (fl-trans (minOf arr (maxOf room 0f)) arr (plain (2 ^ 26)) (in-finite take-in) (in-finite i) tt (min-le-l arr (maxOf room 0f) (in-self i)) h) z
 
 found-mono : {n N : ℕ} {target x : Float} → n ≤ N → T (finite target) → FoundAt n target x → FoundAt N target x
 found-mono {n} {N} {target} h p f =
@@ -91,7 +91,7 @@ module _ {n A L : ℕ} (w : Reach n A L) where
     a = mbFullness s (s .procTime)
 
     abbrev take : Float
-    take = maxNum (paceTake s t (mbFullness s (s .procTime)) room) 0f
+    take = maxOf (paceTake s t (mbFullness s (s .procTime)) room) 0f
 
     he' : e ≤ turnLimit
     he' = le-trans (le-add-right e 1) he
@@ -130,7 +130,7 @@ module _ {n A L : ℕ} (w : Reach n A L) where
 
     -- EBn filled up, and the leak goes on from the time that was found
     goes-running : lt ((paceTake s t (mbFullness s (s .procTime)) room) ⊕ 1f) (arriving s t (mbFullness s (s .procTime))) ≡ true → (x : Float)
-        → FoundAt n (transfer (s .flow) take .transferred) x → Running n L e (gone s t take (maxNum x (s .procTime)))
+        → FoundAt n (transfer (s .flow) take .transferred) x → Running n L e (gone s t take (maxOf x (s .procTime)))
     unfolding gone settle le lt eq
     goes-running z x k =
         let p = taken-finite t s d (aim-in w c) (mbFullness s (s .procTime)) room a-in j z in
@@ -149,7 +149,7 @@ module _ {n A L : ℕ} (w : Reach n A L) where
           };
           time = max-in x (fl-trans-inf x (k .high)) (q .time);
           time-fits = max-fits binary64 x (s .procTime) (k .fit) (q .time-fits);
-          ahead = chain _ _ (pos-units binary64 (arrivedBy (settle (s .mbIn) t) (maxNum x (s .procTime)))) (2 ^ 24 * 2 ^ 1074) (e * ulp binary64 30)
+          ahead = chain _ _ (pos-units binary64 (arrivedBy (settle (s .mbIn) t) (maxOf x (s .procTime)))) (2 ^ 24 * 2 ^ 1074) (e * ulp binary64 30)
               (high→units binary64 (2 ^ 24) (transfer (s .flow) take .transferred) p fit high) (neg-units-zero (transfer (s .flow) take .transferred) p (low (m .top)));
         }
       where
@@ -237,4 +237,4 @@ module _ {n A L : ℕ} (w : Reach n A L) where
         → P (paced s t (mbFullness s (s .procTime)) room)
     paced-running P p z =
         paced-elim n s t (mbFullness s (s .procTime)) room (le-of-lt (few-53 w)) (q .parts .inflow) P (taken-finite t s d (aim-in w c) (mbFullness s (s .procTime)) room a-in j)
-        (λ h x k. p (gone s t take (maxNum x (s .procTime))) (goes-running h x k)) (z (gone s t take t) last-running)
+        (λ h x k. p (gone s t take (maxOf x (s .procTime))) (goes-running h x k)) (z (gone s t take t) last-running)

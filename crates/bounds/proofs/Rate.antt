@@ -13,7 +13,7 @@ use lib.IntN.{pos}
 use lib.Pow.{pow-pos}
 use Rattle.ieee.specs.Binary64.{1e-6f, _⊕_, _⊖_, _⊗_, _⊘_}
 use Rattle.ieee.specs.Interval.{In, minus, plain, zero-float}
-use Rattle.ieee.specs.MaxMin.{maxNum}
+use Rattle.ieee.specs.MaxMin.{maxOf}
 use Rattle.ieee.specs.Rounding.{Close, Rounds}
 use Rattle.ieee.specs.Units.{neg-units, pos-units, scale, ulp}
 use Rattle.ieee.specs.Value.{neg-part, pos-part}
@@ -160,11 +160,11 @@ module _ (now t rbx : Float) (i : In (minus (2 ^ 18)) now (plain (2 ^ 18))) (j :
   unfolding div le lt eq
   q-in = div-in binary64 zero-float (plain (2 ^ 15)) few r tt
 
-  w-in : In zero-float (maxNum ((rbx ⊗ (t ⊖ now)) ⊘ rbx) 1e-6f) (plain (2 ^ 15))
+  w-in : In zero-float (maxOf ((rbx ⊗ (t ⊖ now)) ⊘ rbx) 1e-6f) (plain (2 ^ 15))
   unfolding ofBits le lt eq
   w-in = max-in ((rbx ⊗ (t ⊖ now)) ⊘ rbx) (q-in .high) (widen-high (plain (2 ^ 15)) micro-in tt)
 
-  z-in : In (minus (2 ^ 18)) (now ⊕ (maxNum ((rbx ⊗ (t ⊖ now)) ⊘ rbx) 1e-6f)) (plain (2 ^ 19))
+  z-in : In (minus (2 ^ 18)) (now ⊕ (maxOf ((rbx ⊗ (t ⊖ now)) ⊘ rbx) 1e-6f)) (plain (2 ^ 19))
   unfolding add le lt eq
   z-in = add-in binary64 (minus (2 ^ 18)) (plain (2 ^ 19)) i w-in tt
 
@@ -172,12 +172,12 @@ module _ (now t rbx : Float) (i : In (minus (2 ^ 18)) now (plain (2 ^ 18))) (j :
   unfolding sub add neg le lt eq
   u-in = sub-in binary64 (minus (2 ^ 19)) (plain (2 ^ 19)) j micro-in tt
 
-  not-early : T (le (t ⊖ 1e-6f) (now ⊕ (maxNum ((rbx ⊗ (t ⊖ now)) ⊘ rbx) 1e-6f)))
+  not-early : T (le (t ⊖ 1e-6f) (now ⊕ (maxOf ((rbx ⊗ (t ⊖ now)) ⊘ rbx) 1e-6f)))
   unfolding le lt eq
   not-early =
       let s = t ⊖ now in
       let q = (rbx ⊗ s) ⊘ rbx in
-      let w = maxNum q 1e-6f in
+      let w = maxOf q 1e-6f in
       let z = now ⊕ w in
       let u = t ⊖ 1e-6f in
       let fq = div-fits binary64 (rbx ⊗ s) rbx in
@@ -193,5 +193,5 @@ module _ (now t rbx : Float) (i : In (minus (2 ^ 18)) now (plain (2 ^ 18))) (j :
       (a .low-end) (quotient-low s rbx sp r few (sub-fits binary64 t now)) d (c .low-end) (b .high-end) micro-more)
 
   -- the loop's test fails after it
-  pub rate-late : lt (now ⊕ (maxNum ((rbx ⊗ (t ⊖ now)) ⊘ rbx) 1e-6f)) (t ⊖ 1e-6f) ≡ false
-  rate-late = not-lt _ _ (in-finite z-in) (in-finite u-in) not-early (lt (now ⊕ (maxNum ((rbx ⊗ (t ⊖ now)) ⊘ rbx) 1e-6f)) (t ⊖ 1e-6f)) refl
+  pub rate-late : lt (now ⊕ (maxOf ((rbx ⊗ (t ⊖ now)) ⊘ rbx) 1e-6f)) (t ⊖ 1e-6f) ≡ false
+  rate-late = not-lt _ _ (in-finite z-in) (in-finite u-in) not-early (lt (now ⊕ (maxOf ((rbx ⊗ (t ⊖ now)) ⊘ rbx) 1e-6f)) (t ⊖ 1e-6f)) refl

@@ -10,7 +10,7 @@ use lib.Ieee.Fits.{add-fits}
 use lib.IntN.{pos}
 use Rattle.ieee.specs.Binary64.{0f, 1e-6f, 1f, _⊕_, _⊖_, _⊘_, -∞}
 use Rattle.ieee.specs.Interval.{In, minus, plain, zero-float}
-use Rattle.ieee.specs.MaxMin.{maxNum}
+use Rattle.ieee.specs.MaxMin.{maxOf}
 use Rattle.ieee.specs.Progress.{Over, take-advance}
 use Rattle.ieee.specs.Units.{pos-units, ulp}
 use Rattle.ieee.proofs.Growth.{add-at, widen-at}
@@ -99,7 +99,7 @@ module _ {n A L : ℕ} (w : Reach n A L) where
   unfolding longestSeen
   longest-seen l x over now k q i = go over (eq x -∞) refl
     where
-      go : (a b : Bool) → eq x -∞ ≡ b → In zero-float (cond a l (cond b l (maxNum l (now ⊖ x)))) (plain busyLimit)
+      go : (a b : Bool) → eq x -∞ ≡ b → In zero-float (cond a l (cond b l (maxOf l (now ⊖ x)))) (plain busyLimit)
       go true b e = k
       go false true e = k
       go false false e = max-keeps k (stretch-in now x i (since-some q e))
@@ -131,7 +131,7 @@ module _ {n A L : ℕ} (w : Reach n A L) where
         }
 
   -- ---- bytes wait
-  step-time : (now take rbx : Float) → UpTo A now → In zero-float take (plain (2 ^ 24)) → In (plain 1000) rbx (plain (2 ^ 27)) → UpTo L (now ⊕ (maxNum (take ⊘ rbx) 1e-6f))
+  step-time : (now take rbx : Float) → UpTo A now → In zero-float take (plain (2 ^ 24)) → In (plain 1000) rbx (plain (2 ^ 27)) → UpTo L (now ⊕ (maxOf (take ⊘ rbx) 1e-6f))
   unfolding div le lt eq
   step-time now take rbx i j k =
       let d = div-in binary64 zero-float (plain leakTime) j k tt in
@@ -139,12 +139,12 @@ module _ {n A L : ℕ} (w : Reach n A L) where
       widen-at earliestTime L (add-at binary64 (pos 0) tt i (widen-low (minus 0) m tt) (lit< tt) (lt-of-le-of-lt (le-trans (w .leak) (w .most)) (lit< tt))) (lit≤ tt) (w .leak)
 
   step-after : (now take rbx : Float) → UpTo A now → T (fits binary64 now) → In zero-float take (plain (2 ^ 24)) → In (plain 1000) rbx (plain (2 ^ 27))
-      → T (le now (now ⊕ (maxNum (take ⊘ rbx) 1e-6f)))
+      → T (le now (now ⊕ (maxOf (take ⊘ rbx) 1e-6f)))
   unfolding div le lt eq
   step-after now take rbx i f j k =
       let d = div-in binary64 zero-float (plain leakTime) j k tt in
       let m = max-keeps d (widen-high (plain leakTime) micro-in tt) in
-      add-ge binary64 now (maxNum (take ⊘ rbx) 1e-6f) (in-finite i) (in-finite m) f (m .low)
+      add-ge binary64 now (maxOf (take ⊘ rbx) 1e-6f) (in-finite i) (in-finite m) f (m .low)
 
   module _ {e : ℕ} (r : VideoRates) (t : Float) (s : Leak) (he : e ≤ turnLimit) (q : Running n L e s) (g : RatesIn r) (c : UpTo A t) (f : T (fits binary64 t))
       (h : lt (s .procTime) (t ⊖ 1e-6f) ≡ true)
@@ -159,7 +159,7 @@ module _ {n A L : ℕ} (w : Reach n A L) where
     take-in = back-take-in r t s d g (aim-in c) f h k m
 
     abbrev time' : Float
-    time' = s .procTime ⊕ (maxNum (taken ⊘ r .rbx) 1e-6f)
+    time' = s .procTime ⊕ (maxOf (taken ⊘ r .rbx) 1e-6f)
 
     time-in : UpTo L time'
     time-in = step-time (s .procTime) taken (r .rbx) (now-in t s he q c f h) take-in (g .rbx)
@@ -206,6 +206,6 @@ module _ {n A L : ℕ} (w : Reach n A L) where
             peak = p .peak;
           };
           time = time-in;
-          time-fits = add-fits binary64 (s .procTime) (maxNum (taken ⊘ r .rbx) 1e-6f);
+          time-fits = add-fits binary64 (s .procTime) (maxOf (taken ⊘ r .rbx) 1e-6f);
           ahead = subst (λ (y : Float). pos-units binary64 (transfer (s .flow) taken .transferred) ≤ pos-units binary64 y + aheadLimit e') (sym arrived-then) (ahead-by e' l (le taken 0f) refl);
         }

@@ -10,7 +10,7 @@ use lib.Ieee.Fits.{add-fits, sub-fits}
 use lib.IntN.{pos}
 use Rattle.ieee.specs.Binary64.{0f, 1536f, 1f, 500f, 80000f, 8f, _⊕_, _⊖_, _⊗_, _⊘_, -∞}
 use Rattle.ieee.specs.Interval.{In, minus, plain, zero-float}
-use Rattle.ieee.specs.MaxMin.{maxNum}
+use Rattle.ieee.specs.MaxMin.{maxOf}
 use Rattle.ieee.specs.Whole.{Is}
 use Rattle.ieee.proofs.Growth.{add-at, widen-at}
 use Rattle.ieee.proofs.Interval.{closed-in, cond-in, div-in, in-finite, mul-in, sub-in, widen-low}
@@ -56,7 +56,7 @@ unfolding ofBits fits
 zero-fits-f64 = tt
 
 -- what a drain of y leaves of x
-drained-in : (n : ℕ) (x y : Float) → n ≤ byteLimit → In zero-float x (plain n) → T (fits binary64 x) → In zero-float y (plain (2 ^ 61)) → In zero-float (maxNum (x ⊖ y) 0f) (plain n)
+drained-in : (n : ℕ) (x y : Float) → n ≤ byteLimit → In zero-float x (plain n) → T (fits binary64 x) → In zero-float y (plain (2 ^ 61)) → In zero-float (maxOf (x ⊖ y) 0f) (plain n)
 unfolding sub add neg le lt eq
 drained-in n x y h i f j =
     let d = sub-in binary64 (minus (2 ^ 62)) (plain (2 ^ 62)) (widen-at 0 byteLimit (widen-low (minus 0) i tt) (lit≤ tt) h) j tt in
@@ -73,14 +73,14 @@ module _ (n k : ℕ) (s : SysBranch) (x : Run) (r : Float) (b : SysBounded n s) 
       go (inr i) = cond-in (eq (s .«last_time») -∞) c0 i
 
   -- so much leaves between two times
-  leaves-in : (x y : Float) → WindowTime x → WindowTime y → In zero-float (r ⊗ (maxNum (x ⊖ y) 0f)) (plain (2 ^ 61))
+  leaves-in : (x y : Float) → WindowTime x → WindowTime y → In zero-float (r ⊗ (maxOf (x ⊖ y) 0f)) (plain (2 ^ 61))
   unfolding ofBits sub add neg mul le lt eq
   leaves-in x y i j =
       let d = sub-in binary64 (minus (2 ^ 17)) (plain (2 ^ 17)) i j tt in
       mul-in binary64 zero-float (plain (2 ^ 61)) g (max-in (x ⊖ y) (d .high) (closed-in zero-float 0f (plain (2 ^ 17)) tt)) tt
 
   abbrev idle : Float
-  idle = maxNum (s .fullness ⊖ (r ⊗ (maxNum (x .t0 ⊖ (since s (x .t0))) 0f))) 0f
+  idle = maxOf (s .fullness ⊖ (r ⊗ (maxOf (x .t0 ⊖ (since s (x .t0))) 0f))) 0f
 
   idle-in : In zero-float idle (plain n)
   idle-in = drained-in n (s .fullness) _ (b .few) (b .fullness) (b .fullness-fits) (leaves-in (x .t0) (since s (x .t0)) c0 since-in)
@@ -97,7 +97,7 @@ module _ (n k : ℕ) (s : SysBranch) (x : Run) (r : Float) (b : SysBounded n s) 
 
   filled-fits : T (fits binary64 (filled s x r))
   unfolding filled idled
-  filled-fits = max-fits binary64 ((idle ⊕ x .bytes) ⊖ (r ⊗ (maxNum (x .t1 ⊖ x .t0) 0f))) 0f (sub-fits binary64 (idle ⊕ x .bytes) (r ⊗ (maxNum (x .t1 ⊖ x .t0) 0f))) zero-fits-f64
+  filled-fits = max-fits binary64 ((idle ⊕ x .bytes) ⊖ (r ⊗ (maxOf (x .t1 ⊖ x .t0) 0f))) 0f (sub-fits binary64 (idle ⊕ x .bytes) (r ⊗ (maxOf (x .t1 ⊖ x .t0) 0f))) zero-fits-f64
 
   pub push-sys : SysBounded (n + k) (pushSys s x r)
   unfolding pushSys le lt eq

@@ -1,15 +1,14 @@
 -- What a turn takes: a take of 1 at least raises what has left by over half a byte, and to no more than what has arrived, but for rounding. Assumes nothing.
-use mathlib.Core.Bool.{cond}
 use mathlib.Core.Logic.{_⊎_, inl, inr}
 use mathlib.Core.Path.{_∙_, _≡_}
 use Prim.Native.Nat.{_*_, _+_, _^_, _≤_, ℕ}
 use native.Mathlib.Omega.{arith}
 use lib.Dec.{T, lit≤}
-use lib.Ieee.{Float, add, binary64, eq, fits, le, lt, ne, neg, sub}
+use lib.Ieee.{Float, add, binary64, eq, fits, le, lt, neg, sub}
 use lib.Ieee.Fits.{add-fits, cond-fits, sub-fits}
 use Rattle.ieee.specs.Binary64.{1f, _⊕_, _⊖_}
 use Rattle.ieee.specs.Interval.{In, minus, plain}
-use Rattle.ieee.specs.MaxMin.{minNum}
+use Rattle.ieee.specs.MaxMin.{minOf}
 use Rattle.ieee.specs.Progress.{Over, take-advance}
 use Rattle.ieee.specs.Units.{neg-units, pos-units, ulp}
 use Rattle.ieee.proofs.Interval.{add-in, in-finite, sub-in, widen-high, widen-low}
@@ -51,14 +50,14 @@ sum-below a t take i j k fa ft fy h =
           (2 ^ 24 * 2 ^ 1074) (2 ^ 1074) (ulp binary64 46) (ulp binary64 46) u (s .high-end) l (r .high-end) (lit≤ tt));
     }
 
-pub min-fits : (x y : Float) → T (fits binary64 x) → T (fits binary64 y) → T (fits binary64 (minNum x y))
-unfolding minNum
-min-fits x y f g = cond-fits binary64 (lt y x) y (cond (ne x x) y x) g (cond-fits binary64 (ne x x) y x g f)
+pub min-fits : (x y : Float) → T (fits binary64 x) → T (fits binary64 y) → T (fits binary64 (minOf x y))
+unfolding minOf
+min-fits x y f g = cond-fits binary64 (lt y x) y x g f
 
 -- ---- the least of three, of which the last two are over 1
 
-pub min-three : (x y z : Float) → T (le 1f y) → T (le 1f z) → (minNum (minNum x y) z ≡ minNum x y) ⊎ (minNum (minNum x y) z ≡ z) → (minNum x y ≡ x) ⊎ (minNum x y ≡ y)
-    → (minNum (minNum x y) z ≡ x) ⊎ T (le 1f (minNum (minNum x y) z))
+pub min-three : (x y z : Float) → T (le 1f y) → T (le 1f z) → (minOf (minOf x y) z ≡ minOf x y) ⊎ (minOf (minOf x y) z ≡ z) → (minOf x y ≡ x) ⊎ (minOf x y ≡ y)
+    → (minOf (minOf x y) z ≡ x) ⊎ T (le 1f (minOf (minOf x y) z))
 min-three x y z h k (inl e) (inl f) = inl (e ∙ f)
 min-three x y z h k (inl e) (inr f) = inr (rw (e, f) h)
 min-three x y z h k (inr e) q = inr (rw e k)

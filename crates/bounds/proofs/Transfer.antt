@@ -12,7 +12,7 @@ use lib.Ieee.Fits.{add-fits}
 use lib.ListN.{length}
 use Rattle.ieee.specs.Binary64.{0f, _⊕_, _⊖_}
 use Rattle.ieee.specs.Interval.{In, minus, plain, zero-float}
-use Rattle.ieee.specs.MaxMin.{maxNum}
+use Rattle.ieee.specs.MaxMin.{maxOf}
 use Rattle.ieee.specs.Progress.{Over, place, take-advance}
 use Rattle.ieee.specs.Units.{neg-units, pos-units, ulp}
 use Rattle.ieee.proofs.Interval.{add-in, in-finite, sub-in, widen, widen-high, widen-low}
@@ -153,7 +153,7 @@ module _ (n e : ℕ) (f : Transfer) (size b : Float) (q : TransferIn n e f) (hn 
       eb-high (f .ebIn) (f .ebRemoved) size b sum 0 (place 0 1 (f .transferred) + e) (eb-held n e f q he) (q .removed) iz ib sum-in (q .eb-fits) (q .removed-fits) fz fb (the-sum .r-fits) k
       (q .removed-high)
 
-  peak-in : In zero-float (maxNum (f .ebPeak) ((f .ebIn ⊕ (b ⊖ sum)) ⊖ f .ebRemoved)) (plain ebPeakLimit)
+  peak-in : In zero-float (maxOf (f .ebPeak) ((f .ebIn ⊕ (b ⊖ sum)) ⊖ f .ebRemoved)) (plain ebPeakLimit)
   unfolding sub add neg le lt eq
   peak-in =
       let n : In (minus (2 ^ 37)) (f .ebIn ⊕ (b ⊖ sum)) (plain ebInLimit) = record { low-finite = tt; high-finite = tt; low = next-in .low; high = next-high } in

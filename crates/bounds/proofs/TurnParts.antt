@@ -10,7 +10,7 @@ use lib.Ieee.Fits.{mul-fits, sub-fits}
 use lib.Ieee.Scale.{finite}
 use Rattle.ieee.specs.Binary64.{0f, 1e-6f, 1f, _⊕_, _⊖_, _⊗_, _⊘_}
 use Rattle.ieee.specs.Interval.{In, minus, plain, zero-float}
-use Rattle.ieee.specs.MaxMin.{maxNum, minNum}
+use Rattle.ieee.specs.MaxMin.{maxOf, minOf}
 use Rattle.ieee.specs.Progress.{Over, take-advance}
 use Rattle.ieee.proofs.Interval.{add-in, closed-in, ge-in, in-finite, le-in, mul-in, nle-in, sub-in, widen, widen-high, widen-low}
 use Rattle.ieee.proofs.MaxMin.{min-in, min-l, min-or, min-r}
@@ -92,7 +92,7 @@ some-bytes {b} {hi} i = falsity (le b 0f) (no (le b 0f) (λ (t : T (le b 0f)). a
 
 -- the time at which the rate ends: what a turn that takes by the rate comes to
 unfoldable pub rateTime : Leak → Float → Float → Float
-rateTime s rbx t = s .procTime ⊕ (maxNum ((rbx ⊗ (t ⊖ s .procTime)) ⊘ rbx) 1e-6f)
+rateTime s rbx t = s .procTime ⊕ (maxOf ((rbx ⊗ (t ⊖ s .procTime)) ⊘ rbx) 1e-6f)
 
 from-one : {lo x hi : Float} → In lo x hi → T (le 1f x) → In (plain 1) x hi
 from-one i h = ge-in i one-in h
@@ -105,41 +105,41 @@ module _ (A T0 by room : Float) (i : In (minus 0) A (plain (2 ^ 24))) (j : Trans
   unfolding sub add neg le lt eq
   a-in = over-one (sub-in binary64 (minus (2 ^ 46)) (plain (2 ^ 24)) i j tt) e
 
-  first-in : In zero-float (minNum by (A ⊖ T0)) (plain (2 ^ 24))
+  first-in : In zero-float (minOf by (A ⊖ T0)) (plain (2 ^ 24))
   unfolding le lt eq
   first-in = min-in _ (b .low) (widen-low zero-float a-in tt)
 
-  pub take-in : In zero-float (minNum (minNum by (A ⊖ T0)) room) (plain (2 ^ 24))
+  pub take-in : In zero-float (minOf (minOf by (A ⊖ T0)) room) (plain (2 ^ 24))
   unfolding le lt eq
   take-in =
       let m = min-in _ (first-in .low) (widen-low zero-float q tt) in
       le-in m first-in (min-l first-in q)
 
-  pub take-at-most : T (le (minNum (minNum by (A ⊖ T0)) room) (A ⊖ T0))
+  pub take-at-most : T (le (minOf (minOf by (A ⊖ T0)) room) (A ⊖ T0))
   take-at-most =
-      fl-trans (minNum (minNum by (A ⊖ T0)) room) (minNum by (A ⊖ T0)) (A ⊖ T0) (in-finite take-in) (in-finite first-in) (in-finite a-in) (min-l first-in q) (min-r b a-in)
+      fl-trans (minOf (minOf by (A ⊖ T0)) room) (minOf by (A ⊖ T0)) (A ⊖ T0) (in-finite take-in) (in-finite first-in) (in-finite a-in) (min-l first-in q) (min-r b a-in)
 
-  pub take-room : T (le (minNum (minNum by (A ⊖ T0)) room) room)
+  pub take-room : T (le (minOf (minOf by (A ⊖ T0)) room) room)
   take-room = min-r first-in q
 
-  pub take-fits : T (fits binary64 (minNum (minNum by (A ⊖ T0)) room))
-  take-fits = min-fits (minNum by (A ⊖ T0)) room (min-fits by (A ⊖ T0) fb (sub-fits binary64 A T0)) fq
+  pub take-fits : T (fits binary64 (minOf (minOf by (A ⊖ T0)) room))
+  take-fits = min-fits (minOf by (A ⊖ T0)) room (min-fits by (A ⊖ T0) fb (sub-fits binary64 A T0)) fq
 
-  pub take-top : In (minus 0) (T0 ⊕ (minNum (minNum by (A ⊖ T0)) room)) (plain (2 ^ 24 + 1))
+  pub take-top : In (minus 0) (T0 ⊕ (minOf (minOf by (A ⊖ T0)) room)) (plain (2 ^ 24 + 1))
   unfolding le lt eq
-  take-top = sum-below A T0 (minNum (minNum by (A ⊖ T0)) room) i j (widen (minus 0) (plain (2 ^ 33)) take-in tt) fa ft take-fits take-at-most
+  take-top = sum-below A T0 (minOf (minOf by (A ⊖ T0)) room) i j (widen (minus 0) (plain (2 ^ 33)) take-in tt) fa ft take-fits take-at-most
 
-  by-one : T (le 1f (minNum (minNum by (A ⊖ T0)) room)) → Moves T0 (T0 ⊕ (minNum (minNum by (A ⊖ T0)) room))
+  by-one : T (le 1f (minOf (minOf by (A ⊖ T0)) room)) → Moves T0 (T0 ⊕ (minOf (minOf by (A ⊖ T0)) room))
   unfolding le lt eq
   by-one h = record { over = transfer-step T0 _ j (widen-high (plain (2 ^ 35)) (from-one take-in h) tt); top = take-top }
 
-  pub take-moves : ((minNum (minNum by (A ⊖ T0)) room) ≡ by) ⊎ Moves T0 (T0 ⊕ (minNum (minNum by (A ⊖ T0)) room))
+  pub take-moves : ((minOf (minOf by (A ⊖ T0)) room) ≡ by) ⊎ Moves T0 (T0 ⊕ (minOf (minOf by (A ⊖ T0)) room))
   unfolding ofBits le lt eq
   take-moves =
-      go (min-three by (A ⊖ T0) room (a-in .low) (q .low) (min-or (minNum by (A ⊖ T0)) room) (min-or by (A ⊖ T0))) by-one
+      go (min-three by (A ⊖ T0) room (a-in .low) (q .low) (min-or (minOf by (A ⊖ T0)) room) (min-or by (A ⊖ T0))) by-one
     where
-      go : {B : Type 0} → ((minNum (minNum by (A ⊖ T0)) room) ≡ by) ⊎ T (le 1f (minNum (minNum by (A ⊖ T0)) room)) → (T (le 1f (minNum (minNum by (A ⊖ T0)) room)) → B)
-          → ((minNum (minNum by (A ⊖ T0)) room) ≡ by) ⊎ B
+      go : {B : Type 0} → ((minOf (minOf by (A ⊖ T0)) room) ≡ by) ⊎ T (le 1f (minOf (minOf by (A ⊖ T0)) room)) → (T (le 1f (minOf (minOf by (A ⊖ T0)) room)) → B)
+          → ((minOf (minOf by (A ⊖ T0)) room) ≡ by) ⊎ B
       go (inl x) k = inl x
       go (inr x) k = inr (k x)
 
@@ -155,8 +155,8 @@ not-less {lo} {x} {hi} i j f e =
 
 -- the take of a turn that keeps pace and goes on
 module _ (arr room T0 : Float) (i : In (minus (2 ^ 47)) arr (plain (2 ^ 47))) (fi : T (fits binary64 arr)) (q : In (plain 1) room (plain (2 ^ 34))) (j : TransferredIn T0)
-    (e : lt ((minNum arr (maxNum room 0f)) ⊕ 1f) arr ≡ true) where
-  room-up : In (plain 1) (maxNum room 0f) (plain (2 ^ 34))
+    (e : lt ((minOf arr (maxOf room 0f)) ⊕ 1f) arr ≡ true) where
+  room-up : In (plain 1) (maxOf room 0f) (plain (2 ^ 34))
   unfolding ofBits le lt eq
   room-up = max-keeps q (closed-in zero-float 0f (plain (2 ^ 34)) tt)
 
@@ -164,15 +164,15 @@ module _ (arr room T0 : Float) (i : In (minus (2 ^ 47)) arr (plain (2 ^ 47))) (f
   unfolding ofBits add le lt eq
   one-more = add-in binary64 (minus (2 ^ 60)) (plain (2 ^ 60)) i one-in tt
 
-  is-room : (minNum arr (maxNum room 0f) ≡ arr) ⊎ (minNum arr (maxNum room 0f) ≡ maxNum room 0f) → minNum arr (maxNum room 0f) ≡ maxNum room 0f
+  is-room : (minOf arr (maxOf room 0f) ≡ arr) ⊎ (minOf arr (maxOf room 0f) ≡ maxOf room 0f) → minOf arr (maxOf room 0f) ≡ maxOf room 0f
   is-room (inl x) = absurd (not-less i one-more fi (rw x at e))
   is-room (inr x) = x
 
-  pub go-in : In (plain 1) (maxNum (minNum arr (maxNum room 0f)) 0f) (plain (2 ^ 34))
+  pub go-in : In (plain 1) (maxOf (minOf arr (maxOf room 0f)) 0f) (plain (2 ^ 34))
   unfolding ofBits le lt eq
-  go-in = rw (is-room (min-or arr (maxNum room 0f))) (max-keeps room-up (closed-in zero-float 0f (plain (2 ^ 34)) tt))
+  go-in = rw (is-room (min-or arr (maxOf room 0f))) (max-keeps room-up (closed-in zero-float 0f (plain (2 ^ 34)) tt))
 
-  pub go-moves : T (le (T0 ⊕ (maxNum (minNum arr (maxNum room 0f)) 0f)) (plain (2 ^ 24))) → Moves T0 (T0 ⊕ (maxNum (minNum arr (maxNum room 0f)) 0f))
+  pub go-moves : T (le (T0 ⊕ (maxOf (minOf arr (maxOf room 0f)) 0f)) (plain (2 ^ 24))) → Moves T0 (T0 ⊕ (maxOf (minOf arr (maxOf room 0f)) 0f))
   unfolding add le lt eq
   go-moves h =
       let z = add-in binary64 (minus 0) (plain (2 ^ 46)) j go-in tt in
@@ -264,7 +264,7 @@ module _ (r : VideoRates) (t : Float) (s : Leak) (q : TurnIn s) (g : RatesIn r) 
         → Moves (s .flow .transferred) (next .flow .transferred) ⊎ ByRate s next (r .rbx) t
     unfolding backlogged looked rateTime
     back-from z k (inl x) = inl (k x)
-    back-from z k (inr e) = inr (record { few = rw e at back-take-in; time = ap (λ (y : Float). s .procTime ⊕ (maxNum (y ⊘ r .rbx) 1e-6f)) e; top = moved-in (le taken 0f) refl })
+    back-from z k (inr e) = inr (record { few = rw e at back-take-in; time = ap (λ (y : Float). s .procTime ⊕ (maxOf (y ⊘ r .rbx) 1e-6f)) e; top = moved-in (le taken 0f) refl })
 
     one-moves : T (le 1f taken) → Moves (s .flow .transferred) (transfer (s .flow) taken .transferred)
     unfolding le lt eq
@@ -310,17 +310,17 @@ arriving-fits s t a = sub-fits binary64 (mbFullness s t) a
 
 -- the ways through a turn that keeps pace: it goes on from a time that is found, or ends at t
 module _ (N : ℕ) (s : Leak) (t a room : Float) (h : N ≤ 2 ^ 53) (q : InflowIn N (s .mbIn .runs) (s .mbIn .settled)) where
-  module _ (P : Turned → Type 0) (number : lt ((paceTake s t a room) ⊕ 1f) (arriving s t a) ≡ true → T (finite (transfer (s .flow) (maxNum (paceTake s t a room) 0f) .transferred)))
-      (goes : lt ((paceTake s t a room) ⊕ 1f) (arriving s t a) ≡ true → (x : Float) → FoundAt N (transfer (s .flow) (maxNum (paceTake s t a room) 0f) .transferred) x → P (on (gone s t (maxNum (paceTake s t a room) 0f) (maxNum x (s .procTime)))))
-      (ends : P (break (gone s t (maxNum (paceTake s t a room) 0f) t))) where
-    by-time : lt ((paceTake s t a room) ⊕ 1f) (arriving s t a) ≡ true → (f : ArrivalTime) → FoundIn N (transfer (s .flow) (maxNum (paceTake s t a room) 0f) .transferred) f
-        → P (filled s t (maxNum (paceTake s t a room) 0f) f)
+  module _ (P : Turned → Type 0) (number : lt ((paceTake s t a room) ⊕ 1f) (arriving s t a) ≡ true → T (finite (transfer (s .flow) (maxOf (paceTake s t a room) 0f) .transferred)))
+      (goes : lt ((paceTake s t a room) ⊕ 1f) (arriving s t a) ≡ true → (x : Float) → FoundAt N (transfer (s .flow) (maxOf (paceTake s t a room) 0f) .transferred) x → P (on (gone s t (maxOf (paceTake s t a room) 0f) (maxOf x (s .procTime)))))
+      (ends : P (break (gone s t (maxOf (paceTake s t a room) 0f) t))) where
+    by-time : lt ((paceTake s t a room) ⊕ 1f) (arriving s t a) ≡ true → (f : ArrivalTime) → FoundIn N (transfer (s .flow) (maxOf (paceTake s t a room) 0f) .transferred) f
+        → P (filled s t (maxOf (paceTake s t a room) 0f) f)
     unfolding filled
     by-time e (At x) k = goes e x k
     by-time e NotQueued k = ends
 
     by-test : (b : Bool) → lt ((paceTake s t a room) ⊕ 1f) (arriving s t a) ≡ b
-        → P (cond b (filled s t (maxNum (paceTake s t a room) 0f) (timeOfCumulative (settle (s .mbIn) t) (transfer (s .flow) (maxNum (paceTake s t a room) 0f) .transferred))) (break (gone s t (maxNum (paceTake s t a room) 0f) t)))
+        → P (cond b (filled s t (maxOf (paceTake s t a room) 0f) (timeOfCumulative (settle (s .mbIn) t) (transfer (s .flow) (maxOf (paceTake s t a room) 0f) .transferred))) (break (gone s t (maxOf (paceTake s t a room) 0f) t)))
     unfolding settle
     by-test true e = by-time e _ (time-found N (settle (s .mbIn) t) _ h (settle-keeps N t (s .mbIn .runs) (s .mbIn .settled) h q) (number e))
     by-test false e = ends
@@ -332,19 +332,19 @@ module _ (N : ℕ) (s : Leak) (t a room : Float) (h : N ≤ 2 ^ 53) (q : InflowI
 -- s is looked at; a what waits, room what EB has
 module _ (t : Float) (s : Leak) (q : TurnIn s) (c : TimeIn t) (a room : Float) (i : In (minus (2 ^ 46)) a (plain (2 ^ 24))) (j : In (plain 1) room (plain (2 ^ 34))) where
   module _ (e : lt ((paceTake s t a room) ⊕ 1f) (arriving s t a) ≡ true) where
-    pub taken-in : In (plain 1) (maxNum (paceTake s t a room) 0f) (plain (2 ^ 34))
+    pub taken-in : In (plain 1) (maxOf (paceTake s t a room) 0f) (plain (2 ^ 34))
     unfolding paceTake
     taken-in = go-in (arriving s t a) room (s .flow .transferred) (arriving-in s t a q c i) (arriving-fits s t a) j (q .transferred) e
 
-    pub taken-is : transfer (s .flow) (maxNum (paceTake s t a room) 0f) .transferred ≡ s .flow .transferred ⊕ (maxNum (paceTake s t a room) 0f)
-    taken-is = moved-is (s .flow) (maxNum (paceTake s t a room) 0f) (some-bytes taken-in)
+    pub taken-is : transfer (s .flow) (maxOf (paceTake s t a room) 0f) .transferred ≡ s .flow .transferred ⊕ (maxOf (paceTake s t a room) 0f)
+    taken-is = moved-is (s .flow) (maxOf (paceTake s t a room) 0f) (some-bytes taken-in)
 
-    pub taken-finite : T (finite (transfer (s .flow) (maxNum (paceTake s t a room) 0f) .transferred))
+    pub taken-finite : T (finite (transfer (s .flow) (maxOf (paceTake s t a room) 0f) .transferred))
     unfolding add le lt eq
     taken-finite = rw taken-is (in-finite (add-in binary64 (minus 0) (plain (2 ^ 46)) (q .transferred) taken-in tt))
 
-    pub taken-moves : (x : Float) → FoundAt (2 ^ 24) (transfer (s .flow) (maxNum (paceTake s t a room) 0f) .transferred) x
-        → Moves (s .flow .transferred) (transfer (s .flow) (maxNum (paceTake s t a room) 0f) .transferred)
+    pub taken-moves : (x : Float) → FoundAt (2 ^ 24) (transfer (s .flow) (maxOf (paceTake s t a room) 0f) .transferred) x
+        → Moves (s .flow .transferred) (transfer (s .flow) (maxOf (paceTake s t a room) 0f) .transferred)
     unfolding paceTake
     taken-moves x f = rw taken-is (go-moves (arriving s t a) room (s .flow .transferred) (arriving-in s t a q c i) (arriving-fits s t a) j (q .transferred) e (rw taken-is at (f .top)))
 
@@ -352,5 +352,5 @@ module _ (t : Float) (s : Leak) (q : TurnIn s) (c : TimeIn t) (a room : Float) (
   unfolding gone
   paced-moves =
       paced-elim (2 ^ 24) s t a room (lit≤ tt) (q .inflow) (λ (u : Turned). u .more ≡ true → Moves (s .flow .transferred) (u .leak .flow .transferred)) taken-finite
-      (λ (e : lt ((paceTake s t a room) ⊕ 1f) (arriving s t a) ≡ true) (x : Float) (f : FoundAt (2 ^ 24) (transfer (s .flow) (maxNum (paceTake s t a room) 0f) .transferred) x) (m : true ≡ true). taken-moves e x f)
+      (λ (e : lt ((paceTake s t a room) ⊕ 1f) (arriving s t a) ≡ true) (x : Float) (f : FoundAt (2 ^ 24) (transfer (s .flow) (maxOf (paceTake s t a room) 0f) .transferred) x) (m : true ≡ true). taken-moves e x f)
       (λ (m : false ≡ true). absurd (true≢false (sym m)))

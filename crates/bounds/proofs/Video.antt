@@ -13,7 +13,7 @@ use lib.IntN.{pos}
 use lib.ListN.{length, length-append}
 use Rattle.ieee.specs.Binary64.{0f, 1e-6f, 1f, 2f, 8f, _⊕_, _⊘_, -∞}
 use Rattle.ieee.specs.Interval.{In, minus, plain, zero-float}
-use Rattle.ieee.specs.MaxMin.{maxNum}
+use Rattle.ieee.specs.MaxMin.{maxOf}
 use Rattle.ieee.specs.Units.{neg-units, pos-units}
 use Rattle.ieee.specs.Whole.{Is}
 use Rattle.ieee.proofs.Growth.{widen-at}
@@ -274,7 +274,7 @@ drain-in {n} r v g b =
 
 pub drain-fits : (r : VideoRates) (v : Video) → T (fits binary64 (drainTime r v))
 unfolding drainTime
-drain-fits r v = add-fits binary64 ((maxNum (v .leak .procTime) 0f) ⊕ (v .queued ⊘ r .rbx)) 2f
+drain-fits r v = add-fits binary64 ((maxOf (v .leak .procTime) 0f) ⊕ (v .queued ⊘ r .rbx)) 2f
 
 busy-in : {L n q p a : ℕ} {v : Video} → VideoIn L n q p a v → In zero-float (v .leak .longestBusy) (plain busyLimit)
 busy-in {L} {n} {q} {p} {a} {v} b = go (b .leak)

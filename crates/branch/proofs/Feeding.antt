@@ -8,7 +8,7 @@ use native.Mathlib.Omega.{arith}
 use lib.Dec.{eqb}
 use lib.Ieee.{Float, lt, ne, eq}
 use Rattle.ieee.specs.Binary64.{_⊕_, _⊖_, -∞, 0f, 1f}
-use Rattle.ieee.specs.MaxMin.{maxNum}
+use Rattle.ieee.specs.MaxMin.{maxOf}
 use Rattle.events.specs.Event.{overflow, kindOf, figureOf, decodeOf}
 use Rattle.events.specs.Slots.{Slots, notedIf}
 use Rattle.events.proofs.Noted.{notedAll-when}
@@ -32,7 +32,7 @@ use Rattle.branch.proofs.Rings.{kept, count-entries, three-local, lies-
 -- ---- the look at the end
 
 pub looked : (w : List Float) (p : MainModel) (b : MainBranch) (k : ℕ) (s x : Slots) (total peak : Float) → BranchLies w p b → total ≡ finalTotal (inflowOf w (runsPlace p) (b .inflow)) →
-    x ≡ notedIf (lt (p .«buffer_size» ⊕ 1f) (total ⊖ b .removed)) (k + 0) (total ⊖ b .removed) 0f s → peak ≡ maxNum (b .peak) (total ⊖ b .removed) →
+    x ≡ notedIf (lt (p .«buffer_size» ⊕ 1f) (total ⊖ b .removed)) (k + 0) (total ⊖ b .removed) 0f s → peak ≡ maxOf (b .peak) (total ⊖ b .removed) →
     DrainedTo w p k s (lookAtEnd (p .«buffer_size») (mainOf w p b))
     (record {
       inflow = b .inflow;

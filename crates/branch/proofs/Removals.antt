@@ -6,7 +6,7 @@ use mathlib.Core.List.{List, [], _∷_, _++_}
 use native.Mathlib.Omega.{arith}
 use lib.Ieee.{Float, lt}
 use Rattle.ieee.specs.Binary64.{_⊕_, _⊖_, 0f, 1f, 1e-6f}
-use Rattle.ieee.specs.MaxMin.{maxNum, minNum}
+use Rattle.ieee.specs.MaxMin.{maxOf, minOf}
 use Rattle.events.specs.Event.{Event, overflow, underflow, delay, when, kindOf, figureOf, decodeOf}
 use Rattle.events.specs.Slots.{Slots, notedIf, notedAll}
 use Rattle.events.proofs.Noted.{notedAll-append, notedAll-when}
@@ -41,7 +41,7 @@ removal-noted size arrived fullness required u k s x y z a b c =
 
 -- what `remove` gives
 module _ (w : List Float) (p : MainModel) (b : MainBranch) (u : AccessUnit) (k : ℕ) (s s' : Slots) (g : Arrived) (got : ArrivedTo w (runsPlace p) (b .inflow) (u .«decode_time») g) where
-  pub removed-to : (lo hi age : Float) → lo ≡ minNum (b .required ⊕ u .bytes) (g .total) → hi ≡ maxNum (b .peak) (g .total ⊖ b .removed) → age ≡ maxNum (b .«max_delay_seconds») (u .«decode_time» ⊖ u .«first_input_time») →
+  pub removed-to : (lo hi age : Float) → lo ≡ minOf (b .required ⊕ u .bytes) (g .total) → hi ≡ maxOf (b .peak) (g .total ⊖ b .removed) → age ≡ maxOf (b .«max_delay_seconds») (u .«decode_time» ⊖ u .«first_input_time») →
       s' ≡ notedAll k (removalEvents (p .«buffer_size») (g .total) (g .total ⊖ b .removed) (b .required ⊕ u .bytes) u) s →
       RemovedTo w p b u k s
       (record {

@@ -6,7 +6,7 @@ use mathlib.Core.List.{List, [], _∷_, _++_}
 use native.Mathlib.Omega.{arith}
 use lib.Ieee.{Float, lt, le}
 use Rattle.ieee.specs.Binary64.{_⊕_, _⊖_, 1f, 1e-6f}
-use Rattle.ieee.specs.MaxMin.{maxNum, minNum}
+use Rattle.ieee.specs.MaxMin.{maxOf, minOf}
 use Rattle.events.specs.Event.{underflow, delay, kindOf, figureOf, decodeOf}
 use Rattle.events.specs.Slots.{Slots, notedIf, notedAll}
 use Rattle.events.proofs.Noted.{notedAll-append, notedAll-when}
@@ -81,8 +81,8 @@ unfolding removalEvents kindOf figureOf decodeOf
 noted-removal k ebIn required u s s' s'' e e' =
     e' ∙ (sym (notedAll-when k _ (delay _ _) s') ∙ (ap (notedAll k _) (e ∙ sym (notedAll-when k _ (underflow _ _) s)) ∙ sym (notedAll-append k _ _ s)))
 
-pub removed-by : (m : VideoLayout) (b : VideoBranch) (u : AccessUnit) (k : ℕ) (before after : Slots) (x y : Float) (q : Ring) → x ≡ minNum (b .«eb_required» ⊕ u .bytes) (b .leak .flow .«eb_in»)
-    → y ≡ maxNum (b .«max_delay_seconds») (u .«decode_time» ⊖ u .«first_input_time») → q ≡ popDef (m .units .depth) (b .pending)
+pub removed-by : (m : VideoLayout) (b : VideoBranch) (u : AccessUnit) (k : ℕ) (before after : Slots) (x y : Float) (q : Ring) → x ≡ minOf (b .«eb_required» ⊕ u .bytes) (b .leak .flow .«eb_in»)
+    → y ≡ maxOf (b .«max_delay_seconds») (u .«decode_time» ⊖ u .«first_input_time») → q ≡ popDef (m .units .depth) (b .pending)
     → after ≡ notedAll k (removalEvents (b .leak .flow .«eb_in») (b .«eb_required» ⊕ u .bytes) u) before
     → RemovedBy m b u k before after
     (record {

@@ -8,7 +8,7 @@ use lib.ListN.{length}
 use borrow.Author.Tests.{ltb-true, leb-true, lt-leb, lt-ltb, le-leb}
 use lib.Ieee.{Float, lt, ne, eq}
 use Rattle.ieee.specs.Binary64.{_⊕_, _⊘_, 0f, 1f, 2f, 1e-6f}
-use Rattle.ieee.specs.MaxMin.{maxNum}
+use Rattle.ieee.specs.MaxMin.{maxOf}
 use Rattle.events.specs.Event.{when, mbBusy}
 use Rattle.events.specs.Slots.{Slots, notedAll}
 use Rattle.events.proofs.Noted.{notedAll-append}
@@ -72,7 +72,7 @@ module _ (w v : List Float) (m : VideoLayout) (b : VideoBranch) (d : Delivered) 
 
   -- the end
   module _ (h : VideoFedTo w m b (closeAu depth C) r v) (f : r .full ≡ false) (a : VideoBranch) (x : Stepped) (s' s'' : Slots) (until : Float)
-      (e : until ≡ maxNum (c .leak .«proc_time») 0f ⊕ c .queued ⊘ m .rbx ⊕ 2f) (g : AdvancedTo v m k (c .«open_au») s (advance R until (videoOf v m c)) a s') (n : BusyNoted a k s' x s'') where
+      (e : until ≡ maxOf (c .leak .«proc_time») 0f ⊕ c .queued ⊘ m .rbx ⊕ 2f) (g : AdvancedTo v m k (c .«open_au») s (advance R until (videoOf v m c)) a s') (n : BusyNoted a k s' x s'') where
     drained : until ≡ drainTime R (videoOf v m c)
     unfolding drainTime videoOf leakOf
     drained = e

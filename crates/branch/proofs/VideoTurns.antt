@@ -6,7 +6,7 @@ use mathlib.Core.List.{List, []}
 use native.Mathlib.Omega.{arith}
 use lib.Ieee.{Float, lt, le, eq}
 use Rattle.ieee.specs.Binary64.{_⊕_, _⊖_, _⊗_, _⊘_, 0f, 1f, 1e-6f, -∞}
-use Rattle.ieee.specs.MaxMin.{maxNum, minNum}
+use Rattle.ieee.specs.MaxMin.{maxOf, minOf}
 use Rattle.branch.specs.declared.inflow.ArrivalTime.{ArrivalTime}
 use Rattle.branch.specs.declared.inflow.ArrivalTime.the-variants.{At, NotQueued}
 use Rattle.branch.specs.declared.inflow.Arrived.{Arrived}
@@ -35,7 +35,7 @@ module _ (S : Leak) (t : Float) where
   full-by total e = rw e
 
   pub stalled-by : (i : Inflow) (full since peak : Float) → i ≡ settle (S .mbIn) t → full ≡ mbFullness S t
-      → since ≡ cond (eq (S .busySince) -∞) (cond (lt 1f full) (S .procTime) -∞) (S .busySince) → peak ≡ maxNum (S .mbPeak) full
+      → since ≡ cond (eq (S .busySince) -∞) (cond (lt 1f full) (S .procTime) -∞) (S .busySince) → peak ≡ maxOf (S .mbPeak) full
       → record { mbIn = i; flow = S .flow; busySince = since; longestBusy = S .longestBusy; mbPeak = peak; procTime = t } ≡ stalled S t
   unfolding stalled
   stalled-by i full since peak e f g h = rw (e, g, h, f)
@@ -49,7 +49,7 @@ module _ (S : Leak) (t : Float) where
   unfolding arriving mbFullness
   arriving-by a total e = rw e
 
-  pub take-by : (a room arr m take : Float) → arr ≡ arriving S t a → m ≡ maxNum room 0f → take ≡ minNum arr m → take ≡ paceTake S t a room
+  pub take-by : (a room arr m take : Float) → arr ≡ arriving S t a → m ≡ maxOf room 0f → take ≡ minOf arr m → take ≡ paceTake S t a room
   unfolding paceTake
   take-by a room arr m take e f g = g ∙ rw (e, f)
 
@@ -58,27 +58,27 @@ module _ (S : Leak) (t : Float) where
   found-by b c i f r e g h k = sym (k ∙ rw (e, g, h))
 
   module _ (a room take arr : Float) (p : take ≡ paceTake S t a room) (q : arr ≡ arriving S t a) where
-    pub paced-on : (tt : Float) → lt (take ⊕ 1f) arr ≡ true → timeOfCumulative (settle (S .mbIn) t) (transfer (S .flow) (maxNum take 0f) .transferred) ≡ At tt
-        → paced S t a room ≡ on (gone S t (maxNum take 0f) (maxNum tt (S .procTime)))
+    pub paced-on : (tt : Float) → lt (take ⊕ 1f) arr ≡ true → timeOfCumulative (settle (S .mbIn) t) (transfer (S .flow) (maxOf take 0f) .transferred) ≡ At tt
+        → paced S t a room ≡ on (gone S t (maxOf take 0f) (maxOf tt (S .procTime)))
     unfolding paced filled
     paced-on tt h e = rw (← p, ← q) (simp (h, e))
 
-    pub paced-off : lt (take ⊕ 1f) arr ≡ true → timeOfCumulative (settle (S .mbIn) t) (transfer (S .flow) (maxNum take 0f) .transferred) ≡ NotQueued
-        → paced S t a room ≡ break (gone S t (maxNum take 0f) t)
+    pub paced-off : lt (take ⊕ 1f) arr ≡ true → timeOfCumulative (settle (S .mbIn) t) (transfer (S .flow) (maxOf take 0f) .transferred) ≡ NotQueued
+        → paced S t a room ≡ break (gone S t (maxOf take 0f) t)
     unfolding paced filled
     paced-off h e = rw (← p, ← q) (simp (h, e))
 
-    pub paced-all : lt (take ⊕ 1f) arr ≡ false → paced S t a room ≡ break (gone S t (maxNum take 0f) t)
+    pub paced-all : lt (take ⊕ 1f) arr ≡ false → paced S t a room ≡ break (gone S t (maxOf take 0f) t)
     unfolding paced
     paced-all h = rw (← p, ← q) (simp h)
 
 pub look-by : (S : Leak) (i : Inflow) (full since longest peak : Float) → i ≡ settle (S .mbIn) (S .procTime) → full ≡ mbFullness S (S .procTime)
-    → since ≡ sinceSeen (S .busySince) (lt 1f full) (S .procTime) → longest ≡ longestSeen (S .longestBusy) (S .busySince) (lt 1f full) (S .procTime) → peak ≡ maxNum (S .mbPeak) full
+    → since ≡ sinceSeen (S .busySince) (lt 1f full) (S .procTime) → longest ≡ longestSeen (S .longestBusy) (S .busySince) (lt 1f full) (S .procTime) → peak ≡ maxOf (S .mbPeak) full
     → record { mbIn = i; flow = S .flow; busySince = since; longestBusy = longest; mbPeak = peak; procTime = S .procTime } ≡ looked S
 unfolding looked
 look-by S i full since longest peak e f g h k = rw (e, g, h, k, f)
 
-pub backlogged-by : (r : VideoRates) (S : Leak) (t a room m take d : Float) (f : Transfer) → m ≡ minNum (r .rbx ⊗ (t ⊖ S .procTime)) a → take ≡ minNum m room → f ≡ transfer (S .flow) take → d ≡ maxNum (take ⊘ r .rbx) 1e-6f
+pub backlogged-by : (r : VideoRates) (S : Leak) (t a room m take d : Float) (f : Transfer) → m ≡ minOf (r .rbx ⊗ (t ⊖ S .procTime)) a → take ≡ minOf m room → f ≡ transfer (S .flow) take → d ≡ maxOf (take ⊘ r .rbx) 1e-6f
     → record { mbIn = S .mbIn; flow = f; busySince = S .busySince; longestBusy = S .longestBusy; mbPeak = S .mbPeak; procTime = S .procTime ⊕ d } ≡ backlogged r S t a room
 unfolding backlogged backlogTake
 backlogged-by r S t a room m take d f e g h k = rw (h, k, g, e)
@@ -86,7 +86,7 @@ backlogged-by r S t a room m take d f e g h k = rw (h, k, g, e)
 -- ---- the leak keeps pace, from what its calls ensure
 
 module _ (w : List Float) (m : VideoLayout) (l : LeakState) (t a room mx take b : Float) (got : Arrived) (f : Flow) (v : LeakLies w m l)
-    (g : ArrivedTo w (m .runs) (l .«mb_in») t got) (p0 : mx ≡ maxNum room 0f) (p1 : take ≡ minNum ((got .total ⊖ l .flow .transferred) ⊖ a) mx) (p2 : b ≡ maxNum take 0f)
+    (g : ArrivedTo w (m .runs) (l .«mb_in») t got) (p0 : mx ≡ maxOf room 0f) (p1 : take ≡ minOf ((got .total ⊖ l .flow .transferred) ⊖ a) mx) (p2 : b ≡ maxOf take 0f)
     (x : Transferred w (m .marks) (l .flow) b f) where
   abbrev S : Leak
   S = leakOf w m l
@@ -104,23 +104,23 @@ module _ (w : List Float) (m : VideoLayout) (l : LeakState) (t a room mx take b 
   take-is : take ≡ paceTake S t a room
   take-is = take-by S t a room arr mx take arr-is p0 p1
 
-  gone-is : (y time : Float) → y ≡ time → LeakIs w m (at y) (gone S t (maxNum take 0f) time)
+  gone-is : (y time : Float) → y ≡ time → LeakIs w m (at y) (gone S t (maxOf take 0f) time)
   unfolding leakOf
   gone-is y time e =
       record {
         lies = record { runs = g .after .lies; marks = x .lies };
-        state = gone-by S t (maxNum take 0f) b y time _ (flowOf w (m .marks) f) (g .after .state) (x .state) p2 e;
+        state = gone-by S t (maxOf take 0f) b y time _ (flowOf w (m .marks) f) (g .after .state) (x .state) p2 e;
       }
 
   seen : SettledAt (leakOf w m (at t) .mbIn) t (got .total)
   unfolding leakOf
   seen = settled-at _ _ t (got .total) (g .after .state) (g .total)
 
-  found : (r : ArrivalTime) → r ≡ timeOfCumulative (inflowOf w (m .runs) (got .inflow)) (f .transferred) → timeOfCumulative (settle (S .mbIn) t) (transfer (S .flow) (maxNum take 0f) .transferred) ≡ r
+  found : (r : ArrivalTime) → r ≡ timeOfCumulative (inflowOf w (m .runs) (got .inflow)) (f .transferred) → timeOfCumulative (settle (S .mbIn) t) (transfer (S .flow) (maxOf take 0f) .transferred) ≡ r
   unfolding leakOf flowOf
-  found r k = found-by S t (maxNum take 0f) b _ (flowOf w (m .marks) f) r (g .after .state) (x .state) p2 k
+  found r k = found-by S t (maxOf take 0f) b _ (flowOf w (m .marks) f) r (g .after .state) (x .state) p2 k
 
-  pub paced-fills : (r : ArrivalTime) (tt y : Float) → lt (take ⊕ 1f) arr ≡ true → r ≡ timeOfCumulative (inflowOf w (m .runs) (got .inflow)) (f .transferred) → r ≡ At tt → y ≡ maxNum tt (l .«proc_time»)
+  pub paced-fills : (r : ArrivalTime) (tt y : Float) → lt (take ⊕ 1f) arr ≡ true → r ≡ timeOfCumulative (inflowOf w (m .runs) (got .inflow)) (f .transferred) → r ≡ At tt → y ≡ maxOf tt (l .«proc_time»)
       → TurnIs w m t (record { more = true; total = got .total; leak = at y }) (paced S t a room)
   unfolding leakOf
   paced-fills r tt y h k e z =
@@ -239,7 +239,7 @@ pub reached-again : (w : List Float) (m : VideoLayout) (t : Float) (s : TurnStat
 unfolding leakOf settledLeak
 reached-again w m t s v e = record { leak = record { lies = v; state = rw (e .inflow) }; total = e .arrived }
 
-pub closed-state : (l : LeakState) (total t a b c : Float) → a ≡ cond (eq (l .«busy_since») -∞) (l .«longest_busy») (maxNum (l .«longest_busy») (t ⊖ l .«busy_since»)) → b ≡ maxNum (l .«mb_peak») (total ⊖ l .flow .transferred) → c ≡ maxNum (l .«proc_time») t
+pub closed-state : (l : LeakState) (total t a b c : Float) → a ≡ cond (eq (l .«busy_since») -∞) (l .«longest_busy») (maxOf (l .«longest_busy») (t ⊖ l .«busy_since»)) → b ≡ maxOf (l .«mb_peak») (total ⊖ l .flow .transferred) → c ≡ maxOf (l .«proc_time») t
     → record { «mb_in» = l .«mb_in»; flow = l .flow; «busy_since» = l .«busy_since»; «longest_busy» = a; «mb_peak» = b; «proc_time» = c } ≡ closedState l total t
 unfolding closedState
 closed-state l total t a b c e f g = rw (e, f, g)
@@ -249,9 +249,9 @@ closed-by : (X R : Leak) (t full : Float) → X ≡ settledLeak R t → full ≡
       mbIn = X .mbIn;
       flow = X .flow;
       busySince = X .busySince;
-      longestBusy = cond (eq (X .busySince) -∞) (X .longestBusy) (maxNum (X .longestBusy) (t ⊖ X .busySince));
-      mbPeak = maxNum (X .mbPeak) full;
-      procTime = maxNum (X .procTime) t;
+      longestBusy = cond (eq (X .busySince) -∞) (X .longestBusy) (maxOf (X .longestBusy) (t ⊖ X .busySince));
+      mbPeak = maxOf (X .mbPeak) full;
+      procTime = maxOf (X .procTime) t;
     } ≡ closed R t
 unfolding closed settledLeak
 closed-by X R t full e f = rw (e, f)

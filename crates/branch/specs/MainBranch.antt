@@ -7,7 +7,7 @@ use lib.ListN.{length}
 use lib.Dec.{eqb}
 use lib.Ieee.{Float, lt, ne}
 use Rattle.ieee.specs.Binary64.{_⊕_, _⊖_, -∞, +∞, 0f, 1f, 1e-6f}
-use Rattle.ieee.specs.MaxMin.{maxNum, minNum}
+use Rattle.ieee.specs.MaxMin.{maxOf, minOf}
 use Rattle.events.specs.Event.{Event, overflow, underflow, delay, when}
 use Rattle.branch.specs.declared.Run.{Run}
 use Rattle.branch.specs.declared.AccessUnit.{AccessUnit}
@@ -57,11 +57,11 @@ removeUnit b u rest =
       inflow = settle (b .inflow) (u .«decode_time»);
       pending = rest;
       openAu = b .openAu;
-      removed = minNum (b .required ⊕ u .bytes) (arrivedBy (b .inflow) (u .«decode_time»));
+      removed = minOf (b .required ⊕ u .bytes) (arrivedBy (b .inflow) (u .«decode_time»));
       required = b .required ⊕ u .bytes;
-      peak = maxNum (b .peak) (arrivedBy (b .inflow) (u .«decode_time») ⊖ b .removed);
+      peak = maxOf (b .peak) (arrivedBy (b .inflow) (u .«decode_time») ⊖ b .removed);
       units = b .units + 1;
-      maxDelay = maxNum (b .maxDelay) (u .«decode_time» ⊖ u .«first_input_time»);
+      maxDelay = maxOf (b .maxDelay) (u .«decode_time» ⊖ u .«first_input_time»);
     }
 
 abbrev pub after : List Event → Drained → Drained
@@ -90,7 +90,7 @@ atPeak b peak =
       openAu = b .openAu;
       removed = b .removed;
       required = b .required;
-      peak = maxNum (b .peak) peak;
+      peak = maxOf (b .peak) peak;
       units = b .units;
       maxDelay = b .maxDelay;
     }

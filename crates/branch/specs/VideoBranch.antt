@@ -5,7 +5,7 @@ use mathlib.Core.Bool.{Bool, true, false, cond}
 use mathlib.Core.List.{List, [], _∷_, _++_}
 use lib.Ieee.{Float, lt, le, eq}
 use Rattle.ieee.specs.Binary64.{_⊕_, _⊖_, _⊗_, _⊘_, -∞, 0f, 1f, 2f, 1e-6f}
-use Rattle.ieee.specs.MaxMin.{maxNum, minNum}
+use Rattle.ieee.specs.MaxMin.{maxOf, minOf}
 use Rattle.branch.specs.declared.Run.{Run}
 use Rattle.branch.specs.declared.AccessUnit.{AccessUnit}
 use Rattle.branch.specs.declared.HeaderMark.{HeaderMark}
@@ -30,7 +30,7 @@ pub record Transfer : Type 0 where
 
 -- the bytes of a mark between start and end
 unfoldable pub overlap : HeaderMark → Float → Float → Float
-overlap m start end = maxNum (minNum end (m .threshold) ⊖ maxNum start (m .threshold ⊖ m .bytes)) 0f
+overlap m start end = maxOf (minOf end (m .threshold) ⊖ maxOf start (m .threshold ⊖ m .bytes)) 0f
 
 -- the sum h with the marked bytes between start and end, and the marks that are left
 unfoldable pub headerBytes : List HeaderMark → Float → Float → Float → Float
@@ -56,7 +56,7 @@ moved s bytes =
       transferred = s .transferred ⊕ bytes;
       ebIn = ebInAfter s bytes;
       ebRemoved = s .ebRemoved;
-      ebPeak = maxNum (s .ebPeak) (ebInAfter s bytes ⊖ s .ebRemoved);
+      ebPeak = maxOf (s .ebPeak) (ebInAfter s bytes ⊖ s .ebRemoved);
     }
 
 unfoldable pub transfer : Transfer → Float → Transfer
@@ -85,7 +85,7 @@ unfoldable pub sinceSeen : Float → Bool → Float → Float
 sinceSeen since over now = cond over (cond (eq since -∞) now since) -∞
 
 unfoldable pub longestSeen : Float → Float → Bool → Float → Float
-longestSeen longest since over now = cond over longest (cond (eq since -∞) longest (maxNum longest (now ⊖ since)))
+longestSeen longest since over now = cond over longest (cond (eq since -∞) longest (maxOf longest (now ⊖ since)))
 
 -- a turn begins: MBn is looked at
 unfoldable pub looked : Leak → Leak
@@ -95,7 +95,7 @@ looked s =
       flow = s .flow;
       busySince = sinceSeen (s .busySince) (lt 1f (mbFullness s (s .procTime))) (s .procTime);
       longestBusy = longestSeen (s .longestBusy) (s .busySince) (lt 1f (mbFullness s (s .procTime))) (s .procTime);
-      mbPeak = maxNum (s .mbPeak) (mbFullness s (s .procTime));
+      mbPeak = maxOf (s .mbPeak) (mbFullness s (s .procTime));
       procTime = s .procTime;
     }
 
@@ -107,7 +107,7 @@ stalled s t =
       flow = s .flow;
       busySince = cond (eq (s .busySince) -∞) (cond (lt 1f (mbFullness s t)) (s .procTime) -∞) (s .busySince);
       longestBusy = s .longestBusy;
-      mbPeak = maxNum (s .mbPeak) (mbFullness s t);
+      mbPeak = maxOf (s .mbPeak) (mbFullness s t);
       procTime = t;
     }
 
@@ -139,23 +139,23 @@ unfoldable pub arriving : Leak → Float → Float → Float
 arriving s t available = mbFullness s t ⊖ available
 
 unfoldable pub paceTake : Leak → Float → Float → Float → Float
-paceTake s t available room = minNum (arriving s t available) (maxNum room 0f)
+paceTake s t available room = minOf (arriving s t available) (maxOf room 0f)
 
 -- EBn filled up on the way: the leak goes on from the time of that byte
 unfoldable pub filled : Leak → Float → Float → ArrivalTime → Turned
-filled s t bytes (At tt) = on (gone s t bytes (maxNum tt (s .procTime)))
+filled s t bytes (At tt) = on (gone s t bytes (maxOf tt (s .procTime)))
 filled s t bytes NotQueued = break (gone s t bytes t)
 
 unfoldable pub paced : Leak → Float → Float → Float → Turned
 paced s t available room =
     cond (lt (paceTake s t available room ⊕ 1f) (arriving s t available))
-    (filled s t (maxNum (paceTake s t available room) 0f)
-    (timeOfCumulative (settle (s .mbIn) t) (transfer (s .flow) (maxNum (paceTake s t available room) 0f) .transferred)))
-    (break (gone s t (maxNum (paceTake s t available room) 0f) t))
+    (filled s t (maxOf (paceTake s t available room) 0f)
+    (timeOfCumulative (settle (s .mbIn) t) (transfer (s .flow) (maxOf (paceTake s t available room) 0f) .transferred)))
+    (break (gone s t (maxOf (paceTake s t available room) 0f) t))
 
 -- bytes wait: they leave at the rate up to t, or all of them, or as many as EBn has room for
 unfoldable pub backlogTake : VideoRates → Leak → Float → Float → Float → Float
-backlogTake r s t available room = minNum (minNum (r .rbx ⊗ (t ⊖ s .procTime)) available) room
+backlogTake r s t available room = minOf (minOf (r .rbx ⊗ (t ⊖ s .procTime)) available) room
 
 unfoldable pub backlogged : VideoRates → Leak → Float → Float → Float → Leak
 backlogged r s t available room =
@@ -165,7 +165,7 @@ backlogged r s t available room =
       busySince = s .busySince;
       longestBusy = s .longestBusy;
       mbPeak = s .mbPeak;
-      procTime = s .procTime ⊕ maxNum (backlogTake r s t available room ⊘ r .rbx) 1e-6f;
+      procTime = s .procTime ⊕ maxOf (backlogTake r s t available room ⊘ r .rbx) 1e-6f;
     }
 
 unfoldable pub step : VideoRates → Float → Leak → Float → Float → Turned
@@ -196,9 +196,9 @@ closed s t =
       mbIn = settle (s .mbIn) t;
       flow = s .flow;
       busySince = s .busySince;
-      longestBusy = cond (eq (s .busySince) -∞) (s .longestBusy) (maxNum (s .longestBusy) (t ⊖ s .busySince));
-      mbPeak = maxNum (s .mbPeak) (mbFullness s t);
-      procTime = maxNum (s .procTime) t;
+      longestBusy = cond (eq (s .busySince) -∞) (s .longestBusy) (maxOf (s .longestBusy) (t ⊖ s .busySince));
+      mbPeak = maxOf (s .mbPeak) (mbFullness s t);
+      procTime = maxOf (s .procTime) t;
     }
 
 unfoldable pub started : Leak → Float → Leak
@@ -255,7 +255,7 @@ module _ (v : Video) (u : AccessUnit) where
           marks = s .flow .marks;
           transferred = s .flow .transferred;
           ebIn = s .flow .ebIn;
-          ebRemoved = minNum required (s .flow .ebIn);
+          ebRemoved = minOf required (s .flow .ebIn);
           ebPeak = s .flow .ebPeak;
         };
         busySince = s .busySince;
@@ -271,7 +271,7 @@ module _ (v : Video) (u : AccessUnit) where
         queued = v .queued;
         ebRequired = required;
         pending = rest;
-        maxDelay = maxNum (v .maxDelay) age;
+        maxDelay = maxOf (v .maxDelay) age;
         units = v .units + 1;
       }
 
@@ -294,7 +294,7 @@ advance r frontier v = advanceFrom r frontier (v .pending) v
 
 -- the end: the leak runs long enough to move everything queued
 unfoldable pub drainTime : VideoRates → Video → Float
-drainTime r v = maxNum (v .leak .procTime) 0f ⊕ v .queued ⊘ r .rbx ⊕ 2f
+drainTime r v = maxOf (v .leak .procTime) 0f ⊕ v .queued ⊘ r .rbx ⊕ 2f
 
 unfoldable pub finishVideo : VideoRates → Video → Advanced
 finishVideo r v =

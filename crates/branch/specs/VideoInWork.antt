@@ -8,7 +8,7 @@ use lib.ListN.{getD, length}
 use lib.Dec.{ltb, leb}
 use lib.Ieee.{Float, nan, lt, le, eq}
 use Rattle.ieee.specs.Binary64.{_⊕_, _⊖_, 0f, 1f, 1e-6f, -∞}
-use Rattle.ieee.specs.MaxMin.{maxNum}
+use Rattle.ieee.specs.MaxMin.{maxOf}
 use Rattle.events.specs.Event.{Event, overflow, underflow, delay, mbBusy, when}
 use Rattle.events.specs.Slots.{Slots, notedAll}
 use Rattle.branch.specs.declared.Run.{Run}
@@ -122,9 +122,9 @@ closedState l total t =
       «mb_in» = l .«mb_in»;
       flow = l .flow;
       «busy_since» = l .«busy_since»;
-      «longest_busy» = cond (eq (l .«busy_since») -∞) (l .«longest_busy») (maxNum (l .«longest_busy») (t ⊖ l .«busy_since»));
-      «mb_peak» = maxNum (l .«mb_peak») (total ⊖ l .flow .transferred);
-      «proc_time» = maxNum (l .«proc_time») t;
+      «longest_busy» = cond (eq (l .«busy_since») -∞) (l .«longest_busy») (maxOf (l .«longest_busy») (t ⊖ l .«busy_since»));
+      «mb_peak» = maxOf (l .«mb_peak») (total ⊖ l .flow .transferred);
+      «proc_time» = maxOf (l .«proc_time») t;
     }
 
 pub record ClosedBy (m : VideoLayout) (l : LeakState) (total t : Float) (k : ℕ) (before after : Slots) (r : LeakState) : Type 0 where

@@ -28,7 +28,7 @@ ghost use mathlib.Core.Path.{_≡_};
 ghost use mathlib.Core.Bool.{true, false, cond};
 ghost use Prim.Native.Nat.{ℕ, _+_, _*_, _≤_, _<_};
 ghost use lib.Ieee.{inf, eq, binary64, sub};
-ghost use Rattle.ieee.specs.MaxMin.{maxNum};
+ghost use Rattle.ieee.specs.MaxMin.{maxOf};
 ghost use Rattle.events.specs.Slots.{slots, notedAll};
 ghost use Rattle.branch.specs.Queue.{Lies};
 ghost use Rattle.branch.specs.VideoBranch.{overlap as overlapOf, sinceSeen, longestSeen, ebRoom, mbFullness, looked, stalled as stalledOf, paced as pacedOf, backlogged as backloggedOf, break, step as stepOf, ran, advance as advanceOf};
@@ -192,7 +192,7 @@ fn since_stalled(since: f64, over: bool, now: f64) -> f64
 
 // The longest busy stretch, where one that has not ended counts up to t.
 fn longest_until(longest: f64, since: f64, t: f64) -> f64
-    ensures { λ r. ⌜ r ≡ cond (eq since (inf true)) longest (maxNum longest (sub binary64 t since)) ⌝ }
+    ensures { λ r. ⌜ r ≡ cond (eq since (inf true)) longest (maxOf longest (sub binary64 t since)) ⌝ }
 {
     if since == neg_infinity() {
         return longest;
@@ -809,7 +809,7 @@ fn deliver(b: VideoBranch, m: VideoLayout, work: &mut [f64], d: Delivered) -> St
 
 // How far the leak goes on: at the end, until all that is queued has left.
 fn frontier(b: VideoBranch, m: VideoLayout, end: bool, t: f64) -> f64
-    ensures { λ r. ⌜ r ≡ cond end (maxNum (b .leak .«proc_time») 0f ⊕ b .queued ⊘ m .rbx ⊕ 2f) t ⌝ }
+    ensures { λ r. ⌜ r ≡ cond end (maxOf (b .leak .«proc_time») 0f ⊕ b .queued ⊘ m .rbx ⊕ 2f) t ⌝ }
 {
     if end {
         return max(b.leak.proc_time, 0.0) + b.queued / m.rbx + 2.0;

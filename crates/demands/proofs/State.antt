@@ -12,7 +12,7 @@ use lib.Dec.{eqb}
 use lib.Ieee.{Float, ofBits, le, lt}
 use Rattle.ieee.specs.Binary64.{188f, 1536f, 1f, _⊕_}
 use Rattle.ieee.specs.Interval.{plain}
-use Rattle.ieee.specs.MaxMin.{maxNum, minNum}
+use Rattle.ieee.specs.MaxMin.{maxOf, minOf}
 use Rattle.ieee.specs.Whole.{Is}
 use Rattle.ieee.proofs.Interval.{widen-high}
 use Rattle.ieee.proofs.MaxMin.{max-in, min-in}
@@ -152,7 +152,7 @@ module _ (c : TStdConfig) (within : Within replayLimits c) where
       abbrev to : Float
       to = arrivalAt clock (188 * k + 188)
 
-      times-after : (x y : Float) → Times x y → Times (minNum x from) (maxNum y to)
+      times-after : (x y : Float) → Times x y → Times (minOf x from) (maxOf y to)
       unfolding le
       times-after x y (inl e) = inr (
         min-in x (rw (e .0) tt) (arrival (188 * k) (omega arith)),

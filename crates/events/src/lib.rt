@@ -39,7 +39,7 @@ pub fn note(firsts: &mut [u64; 64], figures: &mut [f64; 128], k: usize, figure: 
         figures[k] = figure;
         figures[64 + k] = decode;
     } else {
-        figures[k] = ieee::max(figures[k], figure);
+        figures[k] = ieee::max_num(figures[k], figure);
     }
 }
 

@@ -10,7 +10,7 @@ use lib.IntN.{ℤ, pos, negsuc}
 use lib.Ieee.{Float, nan, inf, fin, binary64, ofBits, ofInt, add, sub, mul, div, lt, le, eq, fits, up, down, toUnsigned}
 use lib.Ieee.Fits.{add-fits, sub-fits, mul-fits, div-fits}
 use lib.Ieee.Scale.{finite}
-use Rattle.ieee.specs.MaxMin.{maxNum}
+use Rattle.ieee.specs.MaxMin.{maxOf}
 use Rattle.ieee.specs.Interval.{In, plain, minus, zero-float}
 use Rattle.ieee.specs.Progress.{Over}
 use Rattle.ieee.proofs.Value.{val→le}
@@ -78,7 +78,7 @@ finite-some (fin s m e) p = refl
 -- a stretch from s to a, beside the longest so far
 longer :
     (n : ℕ) {x a s : Float} → n ≤ byteLimit → In (plain 0) x (longestStretch n) → In (minus arrivalLimit) a (latestEnd n) → ArrivalTime s →
-    In (plain 0) (maxNum x (sub binary64 a s)) (longestStretch n)
+    In (plain 0) (maxOf x (sub binary64 a s)) (longestStretch n)
 unfolding le
 longer n h i j k =
     max-keeps i
@@ -180,7 +180,7 @@ module _ (n k : ℕ) (f : FluidFifo) (t0 t1 bytes : Float) (b : Bounded n f) (a 
 
   drained-end : T (le drainedAt (exitEnd f t0 t1 bytes))
   unfolding exitEnd
-  drained-end = max-ge-r t1 drainedAt (in-self drained-in)
+  drained-end = max-ge-r t1 drainedAt (in-self (a .end)) (in-self drained-in)
 
   t1-end : T (le t1 (exitEnd f t0 t1 bytes))
   unfolding exitEnd
@@ -192,7 +192,7 @@ module _ (n k : ℕ) (f : FluidFifo) (t0 t1 bytes : Float) (b : Bounded n f) (a 
 
   t0-start : T (le t0 (exitStart f t0))
   unfolding exitStart
-  t0-start = max-ge-r (f .«virtual_done») t0 (in-self (a .start))
+  t0-start = max-ge-r (f .«virtual_done») t0 done-self (in-self (a .start))
 
   -- one byte takes 8e-9 s at least, and a time's rounding is 2^-37 s at most
   drain-some : In (fin false 1025 (negsuc 36)) drainTime (plain 16779)

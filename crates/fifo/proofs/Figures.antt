@@ -2,10 +2,10 @@
 use mathlib.Core.Path.{_≡_, refl}
 use mathlib.Core.Bool.{true}
 use lib.Ieee.{ofBits, ofInt, add, sub, mul, div, lt, le, ne, eq}
-use Rattle.ieee.specs.MaxMin.{maxNum}
+use Rattle.ieee.specs.MaxMin.{maxOf}
 use Rattle.fifo.specs.FluidFifo.{new, exitStart, exitEnd, backlogAtT1, busySince, longestBefore, fed, pushed}
 use Rattle.fifo.specs.Figures.{rows, agrees}
 
 pub figures : agrees (new 8000) rows ≡ true
-unfolding agrees rows new pushed fed exitStart exitEnd backlogAtT1 busySince longestBefore maxNum ofBits ofInt add sub mul div lt le ne eq
+unfolding agrees rows new pushed fed exitStart exitEnd backlogAtT1 busySince longestBefore maxOf ofBits ofInt add sub mul div lt le ne eq
 figures = refl

@@ -2,7 +2,7 @@
 use mathlib.Core.Path.{_≡_}
 use mathlib.Core.Bool.{true, false}
 use lib.Ieee.{Float, binary64, sub}
-use Rattle.ieee.specs.MaxMin.{maxNum}
+use Rattle.ieee.specs.MaxMin.{maxOf}
 use Rattle.fifo.specs.FluidFifo.{neverBusy, idleBefore, busySince, longestBefore}
 use Rattle.fifo.specs.declared.FluidFifo.{FluidFifo}
 
@@ -18,7 +18,7 @@ module _ (f : FluidFifo) (t0 : Float) where
 
   pub after-gap :
       neverBusy f ≡ false → idleBefore f t0 ≡ true →
-      Stretch f t0 t0 (maxNum (f .«longest_busy») (sub binary64 (f .«virtual_done») (f .«busy_since»)))
+      Stretch f t0 t0 (maxOf (f .«longest_busy») (sub binary64 (f .«virtual_done») (f .«busy_since»)))
   unfolding busySince longestBefore
   after-gap n g = record { since-is = simp (n, g); longest-is = simp (n, g) }
 

@@ -5,7 +5,7 @@ use mathlib.Core.Bool.{Bool, cond}
 use lib.IntN.{pos}
 use lib.Ieee.{Float, binary64, ofInt, lt, le, eq}
 use Rattle.ieee.specs.Binary64.{_⊕_, _⊖_, _⊗_, _⊘_, -∞, 0f, 8f, 1e-6f}
-use Rattle.ieee.specs.MaxMin.{maxNum}
+use Rattle.ieee.specs.MaxMin.{maxOf}
 use Rattle.fifo.specs.declared.FluidFifo.{FluidFifo}
 use Rattle.fifo.specs.declared.Pushed.{Pushed}
 
@@ -26,10 +26,10 @@ new rateBps =
 
 -- the window in which the bytes leave: not before what is queued has left, and not before they have come
 unfoldable pub exitStart : FluidFifo → Float → Float
-exitStart f t0 = maxNum (f .«virtual_done») t0
+exitStart f t0 = maxOf (f .«virtual_done») t0
 
 unfoldable pub exitEnd : FluidFifo → Float → Float → Float → Float
-exitEnd f t0 t1 bytes = maxNum t1 (exitStart f t0 ⊕ bytes ⊘ f .rate)
+exitEnd f t0 t1 bytes = maxOf t1 (exitStart f t0 ⊕ bytes ⊘ f .rate)
 
 -- bytes in the FIFO at t1, when the last of them comes
 unfoldable pub backlogAtT1 : FluidFifo → Float → Float → Float → Float
@@ -50,7 +50,7 @@ unfoldable pub longestBefore : FluidFifo → Float → Float
 longestBefore f t0 =
     cond (neverBusy f)
     (f .«longest_busy»)
-    (cond (idleBefore f t0) (maxNum (f .«longest_busy») (f .«virtual_done» ⊖ f .«busy_since»)) (f .«longest_busy»))
+    (cond (idleBefore f t0) (maxOf (f .«longest_busy») (f .«virtual_done» ⊖ f .«busy_since»)) (f .«longest_busy»))
 
 -- the FIFO after bytes that are more than 0.0
 unfoldable pub fed : FluidFifo → Float → Float → Float → FluidFifo
@@ -59,8 +59,8 @@ fed f t0 t1 bytes =
       rate = f .rate;
       «virtual_done» = exitEnd f t0 t1 bytes;
       «busy_since» = busySince f t0;
-      peak = maxNum (f .peak) (backlogAtT1 f t0 t1 bytes);
-      «longest_busy» = maxNum (longestBefore f t0) (exitEnd f t0 t1 bytes ⊖ busySince f t0);
+      peak = maxOf (f .peak) (backlogAtT1 f t0 t1 bytes);
+      «longest_busy» = maxOf (longestBefore f t0) (exitEnd f t0 t1 bytes ⊖ busySince f t0);
     }
 
 unfoldable pub pushed : FluidFifo → Float → Float → Float → Pushed

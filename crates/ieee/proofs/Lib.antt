@@ -7,6 +7,7 @@ pub mod Operations
 pub mod Monotone
 pub mod Interval
 pub mod MaxMin
+pub mod MaxNum
 pub mod MaxAssociative
 pub mod MaxCommutes
 pub mod Whole

@@ -9,7 +9,7 @@ use lib.Ieee.{Float, nan, inf, fin, lt, ne}
 use lib.Ieee.Compare.{differs-from-itself}
 use Rattle.ieee.specs.MaxMin.{maxNum}
 use Rattle.ieee.proofs.Value.{lt→val}
-use Rattle.ieee.proofs.MaxMin.{max-nan-l, max-nan-r}
+use Rattle.ieee.proofs.MaxNum.{lt-nan, max-nan-l, max-nan-r}
 use Rattle.ieee.proofs.Order.{to-T, to-not, truth, lt→le, nlt→le, le-trans, lt-of-lt-of-le}
 
 true-false : {A : Type 0} → true ≡ false → A
@@ -20,12 +20,6 @@ is-false true f = absurd (f tt)
 is-false false f = refl
 
 -- ---- `<` is transitive, and so is its failing where no float is a not-a-number
-
-lt-nan : (b : Float) → lt b nan ≡ false
-unfolding lt
-lt-nan nan = refl
-lt-nan (inf s) = refl
-lt-nan (fin s m e) = refl
 
 lt-top : (b : Float) → lt (inf false) b ≡ false
 unfolding lt

@@ -12,10 +12,10 @@ use lib.Ieee.Fits.{down-pos}
 use lib.Ieee.Bits.{ofBits-toBits}
 use lib.Ieee.Nearest.{div-same}
 use lib.Ieee.Positive.{above}
-use Rattle.ieee.specs.MaxMin.{maxNum}
+use Rattle.ieee.specs.MaxMin.{maxOf, maxNum}
 use Rattle.ieee.proofs.Value.{le→val}
 use Rattle.ieee.proofs.Order.{to-T, to-not, falsity, le-refl, nlt→le, le→nlt, lt→le-any}
-use Rattle.ieee.proofs.MaxMin.{max-is}
+use Rattle.ieee.proofs.MaxNum.{max-is}
 
 -- the bit pattern goes by the value
 same-bits : (f : Format) (m n : ℕ) (e d : ℤ) → m * up e * down d ≡ n * up d * down e → toBits f (fin false m e) ≡ toBits f (fin false n d)
@@ -65,6 +65,7 @@ lt-not-back : (x y : Float) → lt x y ≡ true → lt y x ≡ false
 lt-not-back x y h = falsity (lt y x) (le→nlt y x (lt→le-any x y (to-T h)))
 
 pub max-comm : (f : Format) (x y : Float) → T (fits f x) → T (fits f y) → T (above x) → T (above y) → maxNum x y ≡ maxNum y x
+unfolding maxOf
 max-comm f x y p q a b = rw (max-is x y (above-number x a), max-is y x (above-number y b)) (by-tests (lt x y) (lt y x) refl refl)
   where
     by-tests : (s t : Bool) → lt x y ≡ s → lt y x ≡ t → cond s y x ≡ cond t x y

@@ -164,20 +164,13 @@ pub lt→le-any : (x y : Float) → T (lt x y) → T (le x y)
 unfolding le
 lt→le-any x y h = or-l (lt x y) (eq x y) h
 
--- `x != x` says that x is a not-a-number, and no more
+-- `x != x` fails of a number
 pub ne-self : (x : Float) → T (le x x) → ne x x ≡ false
 unfolding ne eq le lt
 ne-self nan h = absurd h
 ne-self (inf true) h = refl
 ne-self (inf false) h = refl
 ne-self (fin s m e) h = ap not (truth (eq (fin s m e) (fin s m e)) (le-antisymm-eq (fin s m e) (fin s m e) tt tt (le-refl (fin s m e) tt) (le-refl (fin s m e) tt)))
-
-pub nne→le : (x : Float) → T (not (ne x x)) → T (le x x)
-unfolding ne eq le lt
-nne→le nan h = absurd h
-nne→le (inf true) h = tt
-nne→le (inf false) h = tt
-nne→le (fin s m e) h = le-refl (fin s m e) tt
 
 -- ---- `neg` turns the order round
 ord-neg : (s t : Bool) (a b : ℕ) → T (below t b s a || level t b s a) → T (below (not s) a (not t) b || level (not s) a (not t) b)

@@ -14,11 +14,11 @@ use lib.Ieee.Positive.{den}
 use Rattle.ieee.specs.Value.{pos-part, neg-part}
 use Rattle.ieee.specs.Interval.{In, plain}
 use Rattle.ieee.specs.Whole.{Is}
-use Rattle.ieee.specs.MaxMin.{maxNum}
+use Rattle.ieee.specs.MaxMin.{maxOf, maxNum}
 use Rattle.ieee.proofs.Value.{le→val, high→parts, parts→high}
 use Rattle.ieee.proofs.Order.{to-T, to-not, le-refl, le-trans, lt→le-any, nlt→le-any}
 use Rattle.ieee.proofs.Interval.{in-finite}
-use Rattle.ieee.proofs.MaxMin.{max-nan-l, max-nan-r, max-is}
+use Rattle.ieee.proofs.MaxNum.{max-nan-l, max-nan-r, max-is}
 
 min-le : (q t n : ℕ) → q ≤ n → min q t ≤ n
 min-le q t n h = omega arith
@@ -98,6 +98,7 @@ larger-l : (a b : ℕ) → b ≤ a → a ≡ max a b
 larger-l a b h = omega arith
 
 max-by : (w : ℕ) (x y : Float) → T (le x x) → T (le y y) → (b : Bool) → lt x y ≡ b → toUnsigned w (maxNum x y) ≡ max (toUnsigned w x) (toUnsigned w y)
+unfolding maxOf
 max-by w x y p q true e = rw (max-is x y p, e) (larger-r (toUnsigned w x) (toUnsigned w y) (truncation-mono w x y (lt→le-any x y (to-T e))))
 max-by w x y p q false e = rw (max-is x y p, e) (larger-l (toUnsigned w x) (toUnsigned w y) (truncation-mono w y x (nlt→le-any x y p q (to-not e))))
 

@@ -1,11 +1,32 @@
-// Floats of the replay: the larger and the smaller of two and the whole number toward zero, as Rust has them. The laws on
-// floats stand in proofs/.
+// Floats of the replay: the larger and the smaller of two, the whole number toward zero and a count as a float. The laws on floats
+// stand in proofs/.
 ghost use mathlib.Core.Path.{_≡_};
+ghost use lib.IntN.{pos};
 ghost use lib.Ieee as Ieee;
-ghost use Rattle.ieee.specs.MaxMin.{maxNum, minNum};
+ghost use Rattle.ieee.specs.MaxMin.{maxOf, minOf, maxNum};
+
+// One comparison: Rust's `f64::max` where a is a number. Ruled out: the smaller one; the second of two that are equal.
+pub fn max(a: f64, b: f64) -> f64
+    ensures { λ r. ⌜ r ≡ maxOf a b ⌝ }
+{
+    if a < b {
+        return b;
+    }
+    a
+}
+
+// One comparison: Rust's `f64::min` where a is a number. Ruled out: the larger one; the second of two that are equal.
+pub fn min(a: f64, b: f64) -> f64
+    ensures { λ r. ⌜ r ≡ minOf a b ⌝ }
+{
+    if b < a {
+        return b;
+    }
+    a
+}
 
 // Rust's `f64::max`. Ruled out: a not-a-number kept beside a number; the smaller one.
-pub fn max(a: f64, b: f64) -> f64
+pub fn max_num(a: f64, b: f64) -> f64
     ensures { λ r. ⌜ r ≡ maxNum a b ⌝ }
 {
     if a < b {
@@ -17,17 +38,15 @@ pub fn max(a: f64, b: f64) -> f64
     a
 }
 
-// Rust's `f64::min`. Ruled out: a not-a-number kept beside a number; the larger one.
-pub fn min(a: f64, b: f64) -> f64
-    ensures { λ r. ⌜ r ≡ minNum a b ⌝ }
+// A count as a float, as Rust's `as f64` of a `u64`: below 2^31 in one instruction, as a signed integer.
+// Ruled out: a count from 2^63 on read as a negative number; one past 2^53 rounded toward zero.
+pub fn as_float(n: u64) -> f64
+    ensures { λ r. ⌜ r ≡ Ieee.ofInt Ieee.binary64 (pos n) ⌝ }
 {
-    if b < a {
-        return b;
+    if n < 0x8000_0000 {
+        return (n as i64) as f64;
     }
-    if a != a {
-        return b;
-    }
-    a
+    std::num::nearest_u64_to_f64(n)
 }
 
 // binary64 (IEEE 754, 3.4) stores 52 bits of the significand, below a leading one that is implicit, and above them the exponent field.

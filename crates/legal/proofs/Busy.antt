@@ -8,7 +8,7 @@ use lib.ListN.{length}
 use lib.Ieee.{Float, binary64, fits, ofBits, lt, le, eq}
 use lib.Ieee.Fits.{sub-fits}
 use Rattle.ieee.specs.Binary64.{_⊕_, _⊖_, -∞, 0f, 1f, 1e-6f}
-use Rattle.ieee.specs.MaxMin.{maxNum}
+use Rattle.ieee.specs.MaxMin.{maxOf}
 use Rattle.ieee.proofs.MaxMin.{max-fits}
 use Rattle.branch.specs.declared.Run.{Run}
 use Rattle.branch.specs.declared.AccessUnit.{AccessUnit}
@@ -34,9 +34,9 @@ abbrev FedFits : VideoFed → Type 0
 FedFits f = BusyFits (f .chain .branch .leak)
 
 -- a stretch that is over
-longer : (longest since now : Float) (idle : Bool) → T (fits binary64 longest) → T (fits binary64 (cond idle longest (maxNum longest (now ⊖ since))))
+longer : (longest since now : Float) (idle : Bool) → T (fits binary64 longest) → T (fits binary64 (cond idle longest (maxOf longest (now ⊖ since))))
 longer longest since now idle h =
-    either (λ (x : Float). T (fits binary64 x)) idle longest (maxNum longest (now ⊖ since)) h (max-fits binary64 longest (now ⊖ since) h (sub-fits binary64 now since))
+    either (λ (x : Float). T (fits binary64 x)) idle longest (maxOf longest (now ⊖ since)) h (max-fits binary64 longest (now ⊖ since) h (sub-fits binary64 now since))
 
 looked-fits : (s : Leak) → BusyFits s → BusyFits (looked s)
 unfolding looked longestSeen
@@ -53,7 +53,7 @@ paced-fits : (s : Leak) (t available room : Float) → BusyFits s → BusyFits (
 unfolding paced gone
 paced-fits s t available room h =
     either TurnFits (lt (paceTake s t available room ⊕ 1f) (arriving s t available)) _ _
-    (filled-fits s t (maxNum (paceTake s t available room) 0f) (timeOfCumulative (settle (s .mbIn) t) (transfer (s .flow) (maxNum (paceTake s t available room) 0f) .transferred)) h) h
+    (filled-fits s t (maxOf (paceTake s t available room) 0f) (timeOfCumulative (settle (s .mbIn) t) (transfer (s .flow) (maxOf (paceTake s t available room) 0f) .transferred)) h) h
 
 step-fits : (r : VideoRates) (t : Float) (s : Leak) (available room : Float) → BusyFits s → BusyFits (step r t s available room .leak)
 unfolding step stalled backlogged

@@ -6,7 +6,7 @@ use lib.ListN.{length, getD, set}
 use lib.Dec.{eqb}
 use lib.Ieee.{Float, lt}
 use Rattle.ieee.specs.Binary64.{_⊖_, -∞, +∞, 0f, 188f}
-use Rattle.ieee.specs.MaxMin.{maxNum, minNum}
+use Rattle.ieee.specs.MaxMin.{maxOf, minOf}
 use Rattle.error.specs.declared.Refusal.{Refusal}
 use Rattle.packet.specs.declared.TsPacket.{TsPacket}
 use Rattle.packet.specs.declared.Detected.{Detected}
@@ -118,8 +118,8 @@ module _ (c : TStdConfig) (clock : List RateInterval) (p : ℕ) where
         chains = s .chains;
         sysTb = s .sysTb;
         sys = s .sys;
-        firstTime = minNum (s .firstTime) t0;
-        lastTime = maxNum (s .lastTime) t1;
+        firstTime = minOf (s .firstTime) t0;
+        lastTime = maxOf (s .lastTime) t1;
         events = s .events;
       }
 

@@ -256,7 +256,7 @@ fn merge_not_overflow(a: TStdViolation, b: TStdViolation) -> TStdViolation
 {
     match a {
         TbBusyOverOneSecond { seconds: x, .. } => match b {
-            TbBusyOverOneSecond { seconds: y, .. } => with_seconds(a, ieee::max(x, y)),
+            TbBusyOverOneSecond { seconds: y, .. } => with_seconds(a, ieee::max_num(x, y)),
             _ => a,
         },
         MainUnderflow { missing_bytes, .. } => match b {
@@ -267,7 +267,7 @@ fn merge_not_overflow(a: TStdViolation, b: TStdViolation) -> TStdViolation
             _ => a,
         },
         MbBusyOverOneSecond { seconds: x, .. } => match b {
-            MbBusyOverOneSecond { seconds: y, .. } => with_seconds(a, ieee::max(x, y)),
+            MbBusyOverOneSecond { seconds: y, .. } => with_seconds(a, ieee::max_num(x, y)),
             _ => a,
         },
         EbUnderflow { missing_bytes, .. } => match b {
@@ -281,7 +281,7 @@ fn merge_not_overflow(a: TStdViolation, b: TStdViolation) -> TStdViolation
             DelayOverOneSecond {
                 delay_seconds: y,
                 ..
-            } => with_seconds(a, ieee::max(delay_seconds, y)),
+            } => with_seconds(a, ieee::max_num(delay_seconds, y)),
             _ => a,
         },
         _ => a,

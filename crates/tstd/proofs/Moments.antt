@@ -7,7 +7,7 @@ use mathlib.Core.List.{List}
 use borrow.Author.Tests.{le-leb, lt-leb}
 use lib.Ieee.{lt}
 use Rattle.ieee.specs.Binary64.{_⊕_, 0f, 1f, 512f, 1e-6f}
-use Rattle.ieee.specs.MaxMin.{maxNum, minNum}
+use Rattle.ieee.specs.MaxMin.{maxOf, minOf}
 use Rattle.packet.specs.Packet.{parseOf}
 use Rattle.header.specs.declared.PacketHeader.{PacketHeader}
 use Rattle.header.specs.Header.{headerOf}
@@ -63,7 +63,7 @@ module _ (m : Moment) (a : PacketArrival) (t : Times) where
   next-unparsed e f = rw (e, f)
 
   pub next-parsed : m .end ≡ false → m .parsed ≡ true
-      → nextTimes m a t ≡ record { arrival = a; «first_time» = minNum (t .«first_time») (a .t0); «last_time» = maxNum (t .«last_time») (a .t1) }
+      → nextTimes m a t ≡ record { arrival = a; «first_time» = minOf (t .«first_time») (a .t0); «last_time» = maxOf (t .«last_time») (a .t1) }
   unfolding nextTimes
   next-parsed e f = rw (e, f)
 

@@ -9,7 +9,7 @@ use lib.ListN.{length, getD}
 use lib.Dec.{eqb}
 use lib.Ieee.{Float}
 use Rattle.ieee.specs.Binary64.{0f, 188f}
-use Rattle.ieee.specs.MaxMin.{maxNum, minNum}
+use Rattle.ieee.specs.MaxMin.{maxOf, minOf}
 use Rattle.pes.specs.StreamId.{member}
 use Rattle.packet.specs.declared.TsPacket.{TsPacket}
 use Rattle.packet.specs.declared.Parse.{Parse}
@@ -104,7 +104,7 @@ module _ (g : Pass) (ready : Ready g) (k : ℕ) (w : List Float) (ts : List Tran
     come : Arrives g ready k coming
     come = arrives g ready k w (times .arrival) h (now .outside) (now .arrival (omega arith))
 
-    times-are : times' ≡ record { arrival = coming; «first_time» = minNum (times .«first_time») (coming .t0); «last_time» = maxNum (times .«last_time») (coming .t1) }
+    times-are : times' ≡ record { arrival = coming; «first_time» = minOf (times .«first_time») (coming .t0); «last_time» = maxOf (times .«last_time») (coming .t1) }
     unfolding nextTimes
     times-are = next ∙ ap (λ (z : Moment). nextTimes z coming times) (p .moment)
 

@@ -6,7 +6,7 @@ use mathlib.Core.List.{List}
 use lib.Dec.{leb}
 use lib.Ieee.{Float}
 use Rattle.ieee.specs.Binary64.{188f, -∞, +∞}
-use Rattle.ieee.specs.MaxMin.{maxNum, minNum}
+use Rattle.ieee.specs.MaxMin.{maxOf, minOf}
 use Rattle.packet.specs.Packet.{parseOf}
 use Rattle.header.specs.declared.PacketHeader.{PacketHeader}
 use Rattle.header.specs.Header.{headerOf}
@@ -54,7 +54,7 @@ unfoldable pub nextTimes : Moment → PacketArrival → Times → Times
 nextTimes m a t =
     cond (m .end) t
     (cond (m .parsed)
-    (record { arrival = a; «first_time» = minNum (t .«first_time») (a .t0); «last_time» = maxNum (t .«last_time») (a .t1) })
+    (record { arrival = a; «first_time» = minOf (t .«first_time») (a .t0); «last_time» = maxOf (t .«last_time») (a .t1) })
     (record { arrival = a; «first_time» = t .«first_time»; «last_time» = t .«last_time» }))
 
 -- a packet or the end of a stream at its transport buffer, with the events from slot k on

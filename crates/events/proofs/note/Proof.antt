@@ -54,14 +54,14 @@ mul-figures-2 c = search needs
 element-write-figures-2 : tie.Need-element-write-figures-2
 element-write-figures-2 c = search needs
 
-mul-max : tie.Need-mul-max
-mul-max c = search needs
+mul-max-num : tie.Need-mul-max-num
+mul-max-num c = search needs
 
-element-copy-out-max : tie.Need-element-copy-out-max
-element-copy-out-max c = search needs
+element-copy-out-max-num : tie.Need-element-copy-out-max-num
+element-copy-out-max-num c = search needs
 
-max-requires : tie.Need-max-requires
-max-requires c κs = search needs
+max-num-requires : tie.Need-max-num-requires
+max-num-requires c κs = search needs
 
 mul-figures-3 : tie.Need-mul-figures-3
 mul-figures-3 c = search needs
@@ -77,7 +77,7 @@ returns-4 c =
 returns-5 : tie.Need-returns-5
 unfolding laterInSlot
 returns-5 c =
-    rw (c .max .ensures) (sym (noted-later _ _ _ _ (c .before .before .before .before .before .before .before .if1 .left) (c .before .before .before .before .before .before .if2 .left) (c .before .before .before .before .if3 .left) _ (c .before .before .if4 .left)))
+    rw (c .max-num .ensures) (sym (noted-later _ _ _ _ (c .before .before .before .before .before .before .before .if1 .left) (c .before .before .before .before .before .before .if2 .left) (c .before .before .before .before .if3 .left) _ (c .before .before .if4 .left)))
 
 pub note-spec : {M : Type 1} → statement M
 note-spec =
@@ -98,9 +98,9 @@ note-spec =
     add-figures
     mul-figures-2
     element-write-figures-2
-    mul-max
-    element-copy-out-max
-    max-requires
+    mul-max-num
+    element-copy-out-max-num
+    max-num-requires
     mul-figures-3
     element-write-figures-3
     returns-4

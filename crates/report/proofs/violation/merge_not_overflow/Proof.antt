@@ -14,8 +14,8 @@ enum-known-a c = search needs
 enum-known-b : tie.Need-enum-known-b
 enum-known-b c = search needs
 
-max-requires : tie.Need-max-requires
-max-requires c κs = search needs
+max-num-requires : tie.Need-max-num-requires
+max-num-requires c κs = search needs
 
 with-seconds-requires : tie.Need-with-seconds-requires
 with-seconds-requires c κs = search needs
@@ -38,8 +38,8 @@ enum-known-a-3 c = search needs
 enum-known-b-3 : tie.Need-enum-known-b-3
 enum-known-b-3 c = search needs
 
-max-requires-2 : tie.Need-max-requires-2
-max-requires-2 c κs = search needs
+max-num-requires-2 : tie.Need-max-num-requires-2
+max-num-requires-2 c κs = search needs
 
 with-seconds-requires-2 : tie.Need-with-seconds-requires-2
 with-seconds-requires-2 c κs = search needs
@@ -62,15 +62,15 @@ enum-known-a-5 c = search needs
 enum-known-b-5 : tie.Need-enum-known-b-5
 enum-known-b-5 c = search needs
 
-max-requires-3 : tie.Need-max-requires-3
-max-requires-3 c κs = search needs
+max-num-requires-3 : tie.Need-max-num-requires-3
+max-num-requires-3 c κs = search needs
 
 with-seconds-requires-3 : tie.Need-with-seconds-requires-3
 with-seconds-requires-3 c κs = search needs
 
 returns : tie.Need-returns
 unfolding mergeOf fieldsOf worse
-returns c = simp (c .with-seconds .ensures, c .before .max .ensures, c .before .before .before .before .before .before .a .given .1, c .before .before .before .b .given .1)
+returns c = simp (c .with-seconds .ensures, c .before .max-num .ensures, c .before .before .before .before .before .before .a .given .1, c .before .before .before .b .given .1)
 
 returns-2 : tie.Need-returns-2
 unfolding mergeOf fieldsOf
@@ -86,7 +86,7 @@ returns-4 c = simp (c .before .before .a2 .given .1, other-kind 3 (c .before .be
 
 returns-5 : tie.Need-returns-5
 unfolding mergeOf fieldsOf worse
-returns-5 c = simp (c .with-seconds2 .ensures, c .before .max2 .ensures, c .before .before .before .before .before .before .a3 .given .1, c .before .before .before .b3 .given .1)
+returns-5 c = simp (c .with-seconds2 .ensures, c .before .max-num2 .ensures, c .before .before .before .before .before .before .a3 .given .1, c .before .before .before .b3 .given .1)
 
 returns-6 : tie.Need-returns-6
 unfolding mergeOf fieldsOf
@@ -102,7 +102,7 @@ returns-8 c = simp (c .before .before .a4 .given .1, other-kind 6 (c .before .be
 
 returns-9 : tie.Need-returns-9
 unfolding mergeOf fieldsOf worse
-returns-9 c = simp (c .with-seconds3 .ensures, c .before .max3 .ensures, c .before .before .before .before .before .before .a5 .given .1, c .before .before .before .b5 .given .1)
+returns-9 c = simp (c .with-seconds3 .ensures, c .before .max-num3 .ensures, c .before .before .before .before .before .before .a5 .given .1, c .before .before .before .b5 .given .1)
 
 returns-10 : tie.Need-returns-10
 unfolding mergeOf fieldsOf
@@ -117,7 +117,7 @@ merge-not-overflow-spec =
     (tie.spec
     enum-known-a
     enum-known-b
-    max-requires
+    max-num-requires
     with-seconds-requires
     enum-known-a-2
     enum-known-b-2
@@ -125,7 +125,7 @@ merge-not-overflow-spec =
     with-bytes-requires
     enum-known-a-3
     enum-known-b-3
-    max-requires-2
+    max-num-requires-2
     with-seconds-requires-2
     enum-known-a-4
     enum-known-b-4
@@ -133,7 +133,7 @@ merge-not-overflow-spec =
     with-bytes-requires-2
     enum-known-a-5
     enum-known-b-5
-    max-requires-3
+    max-num-requires-3
     with-seconds-requires-3
     returns
     returns-2
