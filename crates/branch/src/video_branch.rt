@@ -34,8 +34,7 @@ ghost use Rattle.branch.specs.Queue.{Lies};
 ghost use Rattle.branch.specs.VideoBranch.{overlap as overlapOf, sinceSeen, longestSeen, ebRoom, mbFullness, looked, stalled as stalledOf, paced as pacedOf, backlogged as backloggedOf, break, step as stepOf, ran, advance as advanceOf};
 ghost use Rattle.branch.specs.VideoInWork.{ratesOf, flowOf, leakOf, HeadersBy, Transferred, LeakLies, LeakIs, LooksBy, TurnIs, SettledAt, TurnsEnd, ReachedBy, ClosedBy, LeaksTo, videoOf, VideoLies, DueOf, removalEvents, RemovedBy, RemovalOf, AdvancedTo, chainOf, Apart, VideoFedTo, QueuedTo, MarkedTo, layoutOf, ready as readyOf, SteppedTo, StepOf, BusyNoted, newBranch};
 ghost use Rattle.ieee.specs.Binary64.{_⊕_, _⊘_, 0f, 2f};
-ghost use Rattle.branch.specs.MainBranch.{stampOf};
-ghost use Rattle.branch.specs.VideoStep.{fed, closeAu, openUnit, addRun, deliver as deliverOf, videoStep};
+ghost use Rattle.branch.specs.VideoStep.{fed, closeAu, addRun, deliver as deliverOf, videoStep};
 
 // What does not change: the rate Rbxn in bytes a second, the sizes MBSn and EBSn in bytes, and where the chain's part of the work begins,
 // with the depth of its three rings.
@@ -654,35 +653,6 @@ fn close_au(b: VideoBranch, m: VideoLayout, work: &mut [f64], wanted: bool) -> S
     }
 }
 
-// A stamp closes the open unit, and opens the next.
-fn open_unit(b: VideoBranch, m: VideoLayout, work: &mut [f64], d: Delivered) -> Stepped
-    requires { ⌜ VideoLies (now work) m b ⌝ }
-    requires { ⌜ Apart m ⌝ }
-    ensures { λ r. ⌜ VideoFedTo (now (work .entry)) m b (openUnit (m .runs .depth) (stampOf d) (chainOf (now (work .entry)) m b)) r (now (work .exit)) ⌝ }
-{
-    let u = AccessUnit {
-        decode_time: d.decode_time,
-        bytes: 0.0,
-        first_input_time: d.first_input_time,
-    };
-    if is_open(u) {
-        let s = close_au(b, m, work, true);
-        if s.full {
-            return s;
-        }
-        let mut c = s.branch;
-        c.open_au = u;
-        return Stepped {
-            full: false,
-            branch: c,
-        };
-    }
-    Stepped {
-        full: false,
-        branch: b,
-    }
-}
-
 // A run goes into MBn; metric is what it adds to the open unit.
 fn queue_run(b: VideoBranch, m: VideoLayout, work: &mut [f64], run: Run, metric: f64) -> Stepped
     requires { ⌜ VideoLies (now work) m b ⌝ }
@@ -780,18 +750,28 @@ fn add_header(b: VideoBranch, m: VideoLayout, work: &mut [f64], run: Run) -> Ste
     }
 }
 
-// What a packet delivers: the header bytes up to a stamp's end, those behind, and the content.
+// What a packet delivers: a stamp, which closes the open unit and opens the next, the header bytes up to its end, those behind, and the
+// content.
 fn deliver(b: VideoBranch, m: VideoLayout, work: &mut [f64], d: Delivered) -> Stepped
     requires { ⌜ VideoLies (now work) m b ⌝ }
     requires { ⌜ Apart m ⌝ }
     ensures { λ r. ⌜ VideoFedTo (now (work .entry)) m b (deliverOf (m .runs .depth) d (chainOf (now (work .entry)) m b)) r (now (work .exit)) ⌝ }
 {
-    let opened = open_unit(b, m, work, d);
-    if opened.full {
-        return opened;
+    let mut a = b;
+    let u = AccessUnit {
+        decode_time: d.decode_time,
+        bytes: 0.0,
+        first_input_time: d.first_input_time,
+    };
+    if is_open(u) {
+        let s = close_au(b, m, work, true);
+        if s.full {
+            return s;
+        }
+        a = s.branch;
+        a.open_au = u;
     }
     let head = d.head;
-    let a = opened.branch;
     let first = add_header(a, m, work, head);
     if first.full {
         return first;
