@@ -58,6 +58,18 @@ fn made_up(megabytes: usize, videos: u16, audio: bool, queue_depth: usize) -> In
     Input { name: format!("made-up, {megabytes} MB"), bytes, profile: p }
 }
 
+/// Null packets and a PCR every 40 packets: no packet of the streams, whose work is zeroed all the same.
+fn no_stream(megabytes: usize, videos: u16, queue_depth: usize) -> Input {
+    let mut input = made_up(megabytes, videos, false, queue_depth);
+    for (k, packet) in input.bytes.chunks_exact_mut(188).enumerate() {
+        if k % 40 != 0 {
+            packet.copy_from_slice(&head(8191, false, 1, k as u8));
+        }
+    }
+    input.name = format!("null packets, {megabytes} MB");
+    input
+}
+
 /// Header bytes only into an EB of two bytes: about a turn of the leak a byte. The one payload byte waits in the
 /// transport buffer behind a burst and is removed when `stamp` says; removed just as it begins to come in, it leaves
 /// room for little more than one byte from then on.
@@ -184,6 +196,9 @@ pub fn run(quick: bool) -> Result<(), String> {
         inputs.extend(sizes.iter().map(|n| made_up(*n, 1, true, depth)));
     }
     inputs.extend(sizes.iter().map(|n| made_up(*n, 8, false, 8_192)));
+    for (megabytes, videos) in [(1, 2), (1, 6), (1, 7), (1, 8), (2, 8), (4, 8)] {
+        inputs.push(no_stream(megabytes, videos, 8_192));
+    }
     for input in &inputs {
         show(input, &alternate(input, &mut m, 5, budget)?);
     }

@@ -26,7 +26,8 @@ use Rattle.branch.specs.MainBranch.{openOf, stampOf}
 use Rattle.bounds.specs.Events.{UpTo, earliestTime, latestTime}
 use Rattle.bounds.proofs.Leak.{finite-not-inf}
 use Rattle.bounds.proofs.Windows.{window-run}
-use Rattle.transport.specs.Arrive.{float, frac, through, stampTime, Arrived, nothing, arrive}
+use Rattle.transport.specs.declared.Arrived.{Arrived}
+use Rattle.transport.specs.Arrive.{float, frac, through, stampTime, nothing, arrive}
 use Rattle.model_bounds.specs.Times.{PacketTime}
 use Rattle.model_bounds.proofs.Times.{float-is, is-188, frac-in, frac-fits, time-in}
 use Rattle.model_bounds.proofs.Open.{RunIn, no-run, a-run, StampIn, no-stamp, a-stamp, DeliveredIn, zero-is}

@@ -2,8 +2,8 @@
 -- Assumes nothing.
 use Prim.Native.Nat.{ℕ, zero, suc, _+_, _-_, _<_, min}
 use mathlib.Core.Path.{_≡_, refl, sym, _∙_, ap, ap₂}
-use mathlib.Core.List.{List, [], _∷_, _++_, append-nil}
-use mathlib.Core.Bool.{Bool, true, false, cond, and-false, _&&_}
+use mathlib.Core.List.{List, [], _∷_, _++_}
+use mathlib.Core.Bool.{Bool, true, false, cond, _&&_}
 use native.Mathlib.Omega.{arith}
 use native.Mathlib.Nat.{add-zero, zero-add, suc-add}
 use lib.ListN.{length, getD}
@@ -18,9 +18,10 @@ use Rattle.packet.specs.Layout.{layoutOf}
 use Rattle.scanner.specs.declared.DecodeTs.{DecodeTs}
 use Rattle.scanner.specs.declared.PesScanner.{PesScanner}
 use Rattle.scanner.specs.declared.Fed.{Fed}
-use Rattle.scanner.specs.Unit.{Open, none, unit, next, nextOpen, runsIn, runsOf, stampEnd, contentBegin, stampOf, cut, noRuns}
+use Rattle.scanner.specs.Unit.{Open, none, unit, nextOpen, runsIn, runsOf, stampEnd, contentBegin, stampOf, cut, noRuns}
 use Rattle.scanner.specs.State.{idle, scannerOf, openOf, fedOf}
 use Rattle.scanner.proofs.Steps.{fed-runs, fed-scanner, new-is}
+use Rattle.scanner.proofs.Cover.{empty-keeps}
 use Rattle.recording.specs.Read.{Streams, isStream, Fact, unparsed, parsed, packets, packetAt, payloadIn, openBehind, factBy, opensAt, factAt, factsFrom, readAt, readBy, readOf, folded}
 
 -- What is read, by its parts.
@@ -91,14 +92,7 @@ module _ (y : TsPacketLayout) (l : List ℕ) (k : ℕ) where
   pub fact-by : (s : Streams) (p : Parse) → parseOf (packetAt y l k) ≡ p → factAt y s l k ≡ factBy s (opensAt y l (suc k)) (packetAt y l k) p
   fact-by s p is = ap (factBy s (opensAt y l (suc k)) (packetAt y l k)) is
 
--- A payload of no bytes leaves the open unit as it is and has no runs.
-next-empty : (o : Open) (bit : Bool) → nextOpen o bit [] ≡ o
-next-empty o bit = rw (and-false bit) (go o)
-  where
-    go : (o : Open) → next o false [] ≡ o
-    go none = refl
-    go (unit u) = ap unit (append-nil u)
-
+-- A payload of no bytes has no runs.
 no-stamp : (n s : ℕ) (x : DecodeTs) → cond (ltb n s && leb s (n + 0)) x DecodeTs.Absent ≡ DecodeTs.Absent
 no-stamp n s x = go (ltb n s) refl
   where
@@ -160,7 +154,7 @@ module _ (y : TsPacketLayout) (l : List ℕ) (k : ℕ) (h : TsPacket) (is : pars
   pub opens-empty : length payload ≡ 0 → (x : ℕ) → opensAt y l (suc k) x ≡ opensAt y l k x
   opens-empty e x =
       opens-by y l k (Parse.Packet h) x is
-      ∙ one-choice (eqb (h .pid) x) (rw (no-elements payload e) (next-empty (opensAt y l k x) (h .«payload_unit_start»)))
+      ∙ one-choice (eqb (h .pid) x) (rw (no-elements payload e) (empty-keeps (opensAt y l k x) (h .«payload_unit_start»)))
 
   -- the scanner of its PID, fed its payload, gives the fact's runs and is the scanner of the open unit behind it
   module _ (c : PesScanner) (f : Fed) (before : c ≡ scannerOf (opensAt y l k (h .pid))) (fed : f ≡ fedOf (openOf c) (h .«payload_unit_start») payload) where

@@ -1,6 +1,6 @@
 -- Document 01 on the runs of a payload: none before the first start; then they touch and cover it; where they end, and which of them
 -- has which stamp. Assumes nothing.
-use mathlib.Core.Path.{_≡_, refl, sym, ap}
+use mathlib.Core.Path.{_≡_, refl, sym, _∙_, ap}
 use mathlib.Core.Bool.{Bool, true, false, cond, _&&_}
 use mathlib.Core.List.{List, [], _∷_, _++_, append-nil}
 use mathlib.Core.Logic.{_⊎_, inl, inr, ⊎-elim}
@@ -30,6 +30,14 @@ no-bit o p = refl
 pub empty-start : (o : Open) (bit : Bool) → nextOpen o bit [] ≡ next o false []
 empty-start o true = refl
 empty-start o false = refl
+
+-- A payload of no bytes leaves the open unit as it is.
+pub empty-keeps : (o : Open) (bit : Bool) → nextOpen o bit [] ≡ o
+empty-keeps o bit = empty-start o bit ∙ go o
+  where
+    go : (o : Open) → next o false [] ≡ o
+    go none = refl
+    go (unit u) = ap unit (append-nil u)
 
 -- Before the first start there are no runs.
 pub no-runs : (size : ℕ) → runsIn none size ≡ noRuns

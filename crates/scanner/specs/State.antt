@@ -1,7 +1,7 @@
 -- What the scanner keeps of a stream's open unit, and its step: the runs of a payload, and what is kept behind it.
 use Prim.Native.Nat.{ℕ, _+_}
 use mathlib.Core.List.{List, [], _∷_, _++_}
-use mathlib.Core.Bool.{Bool, true, false, cond}
+use mathlib.Core.Bool.{Bool, true, false, cond, _&&_}
 use lib.ListN.{length, getD, take, replicate}
 use lib.Dec.{leb}
 use Rattle.scanner.specs.declared.StampBytes.{StampBytes}
@@ -34,6 +34,10 @@ idle = record { count = 0; started = false; header = headerOf [] }
 
 unfoldable pub inContent : PesScanner
 inContent = record { count = headerLimit; started = true; header = headerOf [] }
+
+-- the content of the open unit has begun
+unfoldable pub pastHeader : PesScanner → Bool
+pastHeader s = s .started && leb headerLimit (s .count)
 
 -- what is kept of an open unit: its count of bytes and those bytes, up to its content
 unfoldable pub scannerOf : Open → PesScanner

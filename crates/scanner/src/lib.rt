@@ -7,7 +7,7 @@ ghost use Prim.Native.Nat.{_+_, _-_, _<_, _≤_, min};
 ghost use Rattle.scanner.specs.Unit.{stampBytes, stampEndBy, contentBeginBy, cut, unit};
 ghost use Rattle.syntax.specs.TimeStamp.{timestamp};
 ghost use Rattle.scanner.specs.Joined.{byteAt, stampAt, listed, decodeTsIn, stampHere, cutsBy, keptFrom, begunAt, onlyBody};
-ghost use Rattle.scanner.specs.State.{headerLimit, headerOf, idle, inContent, unitWith, openOf, fedOf};
+ghost use Rattle.scanner.specs.State.{headerLimit, headerOf, idle, inContent, pastHeader, unitWith, openOf, fedOf};
 
 // The decode time that a header announces: 33 bits at 90 kHz, the DTS where it is coded, else the PTS.
 pub enum DecodeTs {
@@ -308,7 +308,8 @@ fn begun(s: PesScanner, start: bool, size: usize) -> PesScanner
     s
 }
 
-fn only(body: usize) -> Runs
+// A payload of content alone. Ruled out: a header byte among its bytes; a time stamp.
+pub fn only(body: usize) -> Runs
     ensures { λ r. ⌜ r ≡ onlyBody body ⌝ }
 {
     Runs {
@@ -320,6 +321,17 @@ fn only(body: usize) -> Runs
 }
 
 impl PesScanner {
+    // The content of the open unit has begun: a payload that starts no unit is content alone and leaves the state as it is.
+    // Ruled out: true before the first unit; true while header bytes may come.
+    pub fn past_header(self) -> bool
+        ensures { λ r. ⌜ r ≡ pastHeader self ⌝ }
+    {
+        if self.started {
+            return HEADER_LIMIT <= self.count;
+        }
+        false
+    }
+
     // Before the first unit. Ruled out: a state that a payload without the start bit would get runs from; a unit open already.
     pub fn new() -> Self
         ensures { λ r. ⌜ r ≡ idle ⌝ }

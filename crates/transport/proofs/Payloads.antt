@@ -1,17 +1,15 @@
--- The runs of a packet's payload: they fit in the packet, and without header bytes there is no stamp. Assumes nothing.
-use mathlib.Core.Path.{_≡_, refl, _∙_, ap}
-use mathlib.Core.Bool.{Bool, true, false}
-use mathlib.Core.List.{List, [], _++_, append-nil}
+-- A packet's payload and its runs: how long they are, and a payload without bytes. Assumes nothing.
+use mathlib.Core.Path.{_≡_}
+use mathlib.Core.Bool.{Bool}
+use mathlib.Core.List.{List}
 use Prim.Native.Nat.{ℕ, _+_, _-_, _≤_}
 use native.Mathlib.Omega.{arith}
-use lib.ListN.{length, drop, length-append, length-take}
+use lib.ListN.{length, drop, length-take, length-drop}
 use Rattle.packet.specs.Packet.{payloadOf}
-use Rattle.scanner.specs.declared.DecodeTs.{DecodeTs}
 use Rattle.scanner.specs.declared.Runs.{Runs}
-use Rattle.scanner.specs.Unit.{Open, none, unit, runsOf, runsIn, starts, next, nextOpen}
+use Rattle.scanner.specs.Unit.{Open, none, unit, runsIn, nextOpen}
 use Rattle.scanner.specs.State.{fedOf}
-use Rattle.scanner.specs.Joined.{onlyBody}
-use Rattle.scanner.proofs.Cover.{empty-start, covers, stamped-nonempty}
+use Rattle.scanner.proofs.Cover.{empty-keeps, covers}
 
 abbrev total : Runs → ℕ
 total r = r .head + r .rest + r .body
@@ -28,33 +26,11 @@ pub payload-end : (w : List ℕ) (start : ℕ) → length (payloadOf w start) �
 unfolding payloadOf
 payload-end w start = rw (length-take (188 - start) (drop start w)) (omega arith)
 
--- a stamp stands with a run of bytes
-unit-unstamped : (u : List ℕ) (size : ℕ) → size ≤ length u → runsOf u size .head ≡ 0 → runsOf u size .«decode_ts» ≡ DecodeTs.Absent
-unit-unstamped u size h e = go (runsOf u size .«decode_ts») refl
-  where
-    go : (d : DecodeTs) → runsOf u size .«decode_ts» ≡ d → d ≡ DecodeTs.Absent
-    go DecodeTs.Absent q = refl
-    go (DecodeTs.At v) q = absurd (omega (arith, stamped-nonempty u size h v q))
-
-next-unstamped : (o : Open) (start : Bool) (p : List ℕ) → runsIn (next o start p) (length p) .head ≡ 0 → runsIn (next o start p) (length p) .«decode_ts» ≡ DecodeTs.Absent
-next-unstamped o true p e = unit-unstamped p (length p) (omega arith) e
-next-unstamped none false p e = refl
-next-unstamped (unit u) false p e = unit-unstamped (u ++ p) (length p) (omega (arith, length-append u p)) e
-
-pub body-alone : (o : Open) (bit : Bool) (p : List ℕ) → fedOf o bit p .runs .head + fedOf o bit p .runs .rest ≡ 0 → fedOf o bit p .runs ≡ onlyBody (fedOf o bit p .runs .body)
-unfolding fedOf
-body-alone o bit p e =
-    let r = runsIn (nextOpen o bit p) (length p) in
-    let h : r .head ≡ 0 = omega arith in
-    let k : r .rest ≡ 0 = omega arith in
-    let s = next-unstamped o (starts bit p) p h in
-    λ i. record { head = h i; «decode_ts» = s i; rest = k i; body = r .body }
+pub payload-length : (w : List ℕ) (start : ℕ) → length w ≤ 188 → length (payloadOf w start) ≡ length w - start
+unfolding payloadOf
+payload-length w start h = simp (length-take, length-drop) (omega arith)
 
 -- a payload that begins at 188 has no bytes and leaves the open unit as it is
 pub next-empty : (o : Open) (bit : Bool) (w : List ℕ) → nextOpen o bit (payloadOf w 188) ≡ o
 unfolding payloadOf
-next-empty o bit w = empty-start o bit ∙ go o
-  where
-    go : (o : Open) → next o false [] ≡ o
-    go none = refl
-    go (unit u) = ap unit (append-nil u)
+next-empty o bit w = empty-keeps o bit

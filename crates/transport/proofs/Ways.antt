@@ -1,24 +1,18 @@
--- The three ways of a packet through `arrive`: without payload, without header bytes, and any other. Assumes nothing.
-use mathlib.Core.Path.{_≡_, _∙_, ap}
-use mathlib.Core.Bool.{Bool}
-use mathlib.Core.List.{List}
-use Prim.Native.Nat.{ℕ, _+_}
+-- The ways of a packet through `arrive`: runs outside the packet, no payload, no header bytes, and any other. Assumes nothing.
+use mathlib.Core.Path.{_≡_, _∙_}
+use mathlib.Core.Bool.{true, false}
+use Prim.Native.Nat.{ℕ, _+_, _≤_}
 use native.Mathlib.Nat.{add-zero}
+use native.Mathlib.Omega.{arith}
 use lib.Ieee.{Float}
-use borrow.Author.Tests.{eq-eqb, ne-eqb}
-use Rattle.ieee.specs.Binary64.{_⊖_, -∞, 188f}
-use Rattle.packet.specs.Packet.{payloadOf}
-use Rattle.scanner.specs.declared.Fed.{Fed}
+use borrow.Author.Tests.{eq-eqb, ne-eqb, le-leb, leb-true}
+use Rattle.ieee.specs.Binary64.{_⊖_, 188f}
 use Rattle.scanner.specs.declared.Runs.{Runs}
-use Rattle.scanner.specs.State.{openOf, fedOf}
 use Rattle.scanner.specs.Joined.{onlyBody}
-use Rattle.arrival.specs.declared.RateInterval.{RateInterval}
 use Rattle.fifo.specs.declared.FluidFifo.{FluidFifo}
 use Rattle.fifo.specs.FluidFifo.{pushed}
-use Rattle.transport.specs.declared.Transport.{Transport}
-use Rattle.transport.specs.Arrive.{float, frac, noRun, nothing, through, delivery, arrive}
-use Rattle.transport.specs.Transport.{byteTime, stampAnswer, arrivedWith, arrivedOf}
-use Rattle.transport.proofs.Payloads.{body-alone}
+use Rattle.transport.specs.Arrive.{float, frac, noRun, nothing, through, delivery, arrive, fitsIn, arriveIn}
+use Rattle.transport.specs.Transport.{byteTime}
 
 -- content alone is one run behind the header bytes
 pub content-delivery : (tb : FluidFifo) (a n : ℕ) (at : ℕ → Float) (decode : Float)
@@ -29,26 +23,41 @@ pub content-delivery : (tb : FluidFifo) (a n : ℕ) (at : ℕ → Float) (decode
 unfolding through
 content-delivery tb a n at decode = simp add-zero
 
-module _ (t : Transport) (w : List ℕ) (start : ℕ) (bit : Bool) (t0 u : Float) (i : RateInterval) where
-  abbrev fed : Fed
-  fed = fedOf (openOf (t .scanner)) bit (payloadOf w start)
+module _ (a : ℕ) (r : Runs) where
+  pub fits-in : a + r .head + r .rest + r .body ≤ 188 → fitsIn a r ≡ true
+  unfolding fitsIn
+  fits-in h = le-leb _ 188 h
 
+  pub in-packet : fitsIn a r ≡ true → a + r .head + r .rest + r .body ≤ 188
+  unfolding fitsIn
+  in-packet e = leb-true _ 188 e
+
+module _ (tb : FluidFifo) (a : ℕ) (r : Runs) (t0 u decode : Float) where
   abbrev at : ℕ → Float
   at k = byteTime t0 (u ⊖ t0) k
 
   abbrev header : FluidFifo
-  header = pushed (t .tb) t0 (at start) (float start) .fifo
+  header = pushed tb t0 (at a) (float a) .fifo
 
-  pub empty-way : start ≡ 188 → arrivedOf t w start bit t0 u i ≡ arrivedWith (t .scanner) (record { tb = pushed (t .tb) t0 u 188f .fifo; delivered = nothing })
-  unfolding arrivedOf arrive
-  empty-way e = rw (eq-eqb start 188 e)
+  pub outside-way : fitsIn a r ≡ false → arriveIn tb a r t0 u decode ≡ record { tb = tb; delivered = nothing }
+  unfolding arriveIn
+  outside-way e = rw e
 
-  pub headed-way : (start ≡ 188 → ⊥) → arrivedOf t w start bit t0 u i ≡ arrivedWith (fed .scanner) (delivery header start (fed .runs) at (stampAnswer i (fed .runs .«decode_ts»)))
-  unfolding arrivedOf arrive frac
-  headed-way d = rw (ne-eqb start 188 d)
+  pub inside-way : fitsIn a r ≡ true → arriveIn tb a r t0 u decode ≡ arrive tb a r t0 u decode
+  unfolding arriveIn
+  inside-way e = rw e
 
-  pub plain-way : (start ≡ 188 → ⊥) → fed .runs .head + fed .runs .rest ≡ 0
-      → arrivedOf t w start bit t0 u i ≡ arrivedWith (fed .scanner) (delivery header start (onlyBody (fed .runs .body)) at -∞)
+  pub empty-way : a ≡ 188 → arrive tb a r t0 u decode ≡ record { tb = pushed tb t0 u 188f .fifo; delivered = nothing }
+  unfolding arrive
+  empty-way e = rw (eq-eqb a 188 e)
+
+  pub headed-way : (a ≡ 188 → ⊥) → arrive tb a r t0 u decode ≡ delivery header a r at decode
+  unfolding arrive frac
+  headed-way d = rw (ne-eqb a 188 d)
+
+  pub plain-way : (a ≡ 188 → ⊥) → r .head + r .rest ≡ 0 → arrive tb a r t0 u decode ≡ delivery header a (onlyBody (r .body)) at decode
   plain-way d e =
+      let h : r .head ≡ 0 = omega arith in
+      let k : r .rest ≡ 0 = omega arith in
       headed-way d
-      ∙ ap (λ (r : Runs). arrivedWith (fed .scanner) (delivery header start r at (stampAnswer i (r .«decode_ts»)))) (body-alone (openOf (t .scanner)) bit (payloadOf w start) e)
+      ∙ λ i. delivery header a (record { head = h i; «decode_ts» = r .«decode_ts»; rest = k i; body = r .body }) at decode

@@ -1,8 +1,8 @@
 -- What a packet delivers from the transport buffer TBn: its header and adaptation bytes, then each run of its payload go through the buffer
 -- (the Rust's loop over packets in `analyze_tstd`, for one stream).
 use Prim.Native.Nat.{ℕ, _+_}
-use mathlib.Core.Bool.{cond}
-use lib.Dec.{eqb}
+use mathlib.Core.Bool.{Bool, cond}
+use lib.Dec.{eqb, leb}
 use lib.IntN.{pos}
 use lib.Ieee.{Float, binary64, ofInt}
 use Rattle.ieee.specs.Binary64.{_⊕_, _⊖_, _⊗_, _⊘_, -∞, 0f, 188f}
@@ -15,6 +15,7 @@ use Rattle.fifo.specs.FluidFifo.{pushed}
 use Rattle.branch.specs.declared.Run.{Run}
 use Rattle.branch.specs.declared.Delivered.{Delivered}
 use Rattle.transport.specs.declared.Through.{Through}
+use Rattle.transport.specs.declared.Arrived.{Arrived}
 
 abbrev pub float : ℕ → Float
 float n = ofInt binary64 (pos n)
@@ -39,10 +40,6 @@ through tb from to len =
 abbrev pub stampTime : RateInterval → DecodeTs → Float
 stampTime i DecodeTs.Absent = -∞
 stampTime i (DecodeTs.At raw) = decodeTime i raw
-
-pub record Arrived : Type 0 where
-  pub tb : FluidFifo
-  pub delivered : Delivered
 
 abbrev pub nothing : Delivered
 nothing = record { «decode_time» = -∞; «first_input_time» = 0f; head = noRun; rest = noRun; body = noRun }
@@ -84,3 +81,11 @@ unfoldable pub arrive : FluidFifo → ℕ → Runs → Float → Float → Float
 arrive tb a r t0 t1 decode =
     cond (eqb a 188) (record { tb = pushed tb t0 t1 188f .fifo; delivered = nothing })
     (delivery (pushed tb t0 (frac t0 t1 a) (float a) .fifo) a r (frac t0 t1) decode)
+
+-- the runs of a payload that begins at byte a lie in the packet
+unfoldable pub fitsIn : ℕ → Runs → Bool
+fitsIn a r = leb (a + r .head + r .rest + r .body) 188
+
+-- `arrive` for any runs: those that do not lie in the packet change and deliver nothing
+unfoldable pub arriveIn : FluidFifo → ℕ → Runs → Float → Float → Float → Arrived
+arriveIn tb a r t0 t1 decode = cond (fitsIn a r) (arrive tb a r t0 t1 decode) (record { tb = tb; delivered = nothing })

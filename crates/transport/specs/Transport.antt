@@ -1,4 +1,4 @@
--- What the code of this crate gives: a stream's transport buffer and scanner behind a packet, and what the packet delivers.
+-- A stream's transport buffer with its scanner: both behind a packet, and what the packet delivers.
 use Prim.Native.Nat.{ℕ}
 use mathlib.Core.Bool.{Bool, cond}
 use mathlib.Core.List.{List}
@@ -12,10 +12,18 @@ use Rattle.scanner.specs.State.{idle, openOf, fedOf}
 use Rattle.arrival.specs.declared.RateInterval.{RateInterval}
 use Rattle.arrival.specs.Times.{decodeTimeOrZero}
 use Rattle.fifo.specs.FluidFifo.{new}
-use Rattle.transport.specs.declared.Transport.{Transport}
+use Rattle.fifo.specs.declared.FluidFifo.{FluidFifo}
+use Rattle.branch.specs.declared.Delivered.{Delivered}
 use Rattle.transport.specs.declared.Arrived.{Arrived}
-use Rattle.transport.specs.Arrive as step
 use Rattle.transport.specs.Arrive.{float, arrive}
+
+pub record Transport : Type 0 where
+  pub tb : FluidFifo
+  pub scanner : PesScanner
+
+pub record Passed : Type 0 where
+  pub transport : Transport
+  pub delivered : Delivered
 
 -- a stream before its first packet
 unfoldable pub newTransport : ℕ → Transport
@@ -31,12 +39,12 @@ stampAnswer i DecodeTs.Absent = -∞
 stampAnswer i (DecodeTs.At raw) = decodeTimeOrZero i raw
 
 -- the answer of `arrive` with the scanner
-abbrev pub arrivedWith : PesScanner → step.Arrived → Arrived
+abbrev pub arrivedWith : PesScanner → Arrived → Passed
 arrivedWith s x = record { transport = record { tb = x .tb; scanner = s }; delivered = x .delivered }
 
 -- a packet: its bytes, where its payload begins, payload_unit_start_indicator, when it comes, and the interval of its end
 -- the scanner is fed the payload; one that begins at 188 has no bytes and leaves it as it is
-unfoldable pub arrivedOf : Transport → List ℕ → ℕ → Bool → Float → Float → RateInterval → Arrived
+unfoldable pub arrivedOf : Transport → List ℕ → ℕ → Bool → Float → Float → RateInterval → Passed
 arrivedOf t w start bit t0 u i =
     let fed = fedOf (openOf (t .scanner)) bit (payloadOf w start) in
     arrivedWith (cond (eqb start 188) (t .scanner) (fed .scanner))

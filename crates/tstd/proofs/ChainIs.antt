@@ -34,7 +34,7 @@ use Rattle.branch.proofs.VideoCounts as video-counts
 use Rattle.profile.specs.declared.model.TStdBranch.{TStdBranch}
 use Rattle.profile.specs.declared.config.TStdStream.{TStdStream}
 use Rattle.transport.specs.Arrive.{float}
-use Rattle.transport.specs.declared.Transport.{Transport}
+use Rattle.fifo.specs.declared.FluidFifo.{FluidFifo}
 use Rattle.model.specs.Chain.{Branch, main, video, Chain, newChain, Stepped, stepBranch, statsOf}
 use Rattle.tstd.specs.declared.stream.StreamModel.{StreamModel}
 use Rattle.tstd.specs.InWork.{modelBy, streamModel, branchIn, unitsOf, ChainIs}
@@ -48,12 +48,12 @@ record BranchIs (w : List Float) (m : TStdBranch) (pid base depth k : ℕ) (b : 
   pub room : base + 8 * depth ≤ length w
   pub units : unitsOf y ≤ k
 
-of-chain : {w : List Float} {s : TStdStream} {base depth k : ℕ} {t : Transport} {b : MainBranch} {v : VideoBranch} {x : Chain}
+of-chain : {w : List Float} {s : TStdStream} {base depth k : ℕ} {t : FluidFifo} {b : MainBranch} {v : VideoBranch} {x : Chain}
     → ChainIs w s base depth k t b v x → BranchIs w (s .model .branch) (s .pid) base depth k b v (x .branch)
 of-chain c = record { branch = c .branch; main-lies = c .main-lies; video-lies = c .video-lies; room = c .room; units = c .units }
 
-chain-of : {w : List Float} {s : TStdStream} {base depth k : ℕ} {t : Transport} {b : MainBranch} {v : VideoBranch} {x : Chain}
-    → t .tb ≡ x .tb → BranchIs w (s .model .branch) (s .pid) base depth k b v (x .branch) → ChainIs w s base depth k t b v x
+chain-of : {w : List Float} {s : TStdStream} {base depth k : ℕ} {t : FluidFifo} {b : MainBranch} {v : VideoBranch} {x : Chain}
+    → t ≡ x .tb → BranchIs w (s .model .branch) (s .pid) base depth k b v (x .branch) → ChainIs w s base depth k t b v x
 chain-of e c = record { tb = e; branch = c .branch; main-lies = c .main-lies; video-lies = c .video-lies; room = c .room; units = c .units }
 
 -- the model of a kind
@@ -86,7 +86,7 @@ new-by w s (TStdBranch.Video rbx mb eb) pid base depth e d r =
     let p = videoModel rbx mb eb base depth in
     rw e (video-is rbx mb eb (ap video (video-laws.new-is w (layoutOf p))) (video-laws.new-lies w p d r) r (omega arith))
 
-pub new-is : (w : List Float) (s : TStdStream) (base depth : ℕ) (t : Transport) → 0 < depth → base + 8 * depth ≤ length w → t .tb ≡ new (s .model .«rx_bps»)
+pub new-is : (w : List Float) (s : TStdStream) (base depth : ℕ) (t : FluidFifo) → 0 < depth → base + 8 * depth ≤ length w → t ≡ new (s .model .«rx_bps»)
     → ChainIs w s base depth 0 t main-work.newBranch video-work.newBranch (newChain s)
 unfolding newChain
 new-is w s base depth t d r e = chain-of e (new-by w s (s .model .branch) (s .pid) base depth refl d r)
@@ -112,7 +112,7 @@ pub record StepIs (w u : List Float) (s : TStdStream) (base depth k slot : ℕ) 
   pub full : isFull ≡ st .full
   pub slots : sl' ≡ notedAll slot (st .events) sl
   pub outside : SameOutside base (base + 8 * depth) w u
-  pub chain : (t : Transport) (z : Chain) → t .tb ≡ z .tb → st .branch ≡ z .branch → ChainIs u s base depth (suc k) t b v z
+  pub chain : (t : FluidFifo) (z : Chain) → t ≡ z .tb → st .branch ≡ z .branch → ChainIs u s base depth (suc k) t b v z
 
 step-of : {w u : List Float} {s : TStdStream} {base depth k slot : ℕ} {sl sl' : Slots} {st : Stepped} {full : Bool} {b : MainBranch} {v : VideoBranch}
     → BranchStepIs w u (s .model .branch) (s .pid) base depth k slot sl sl' st full b v → StepIs w u s base depth k slot sl sl' st full b v
@@ -158,7 +158,7 @@ module _ (w u : List Float) (pid base depth k : ℕ) (b : MainBranch) (v : Video
   video-by (TStdBranch.Main size) y r h i q = absurd (true≢false (sym h))
   video-by (TStdBranch.Video rbx mb eb) y r h i q = video-stepped rbx mb eb y r (i .branch) (i .video-lies refl) (i .room) (i .units) q
 
-module _ {w u : List Float} {s : TStdStream} {base depth k : ℕ} {t : Transport} {b : MainBranch} {v : VideoBranch} {x : Chain} (c : ChainIs w s base depth k t b v x)
+module _ {w u : List Float} {s : TStdStream} {base depth k : ℕ} {t : FluidFifo} {b : MainBranch} {v : VideoBranch} {x : Chain} (c : ChainIs w s base depth k t b v x)
     {d : Delivered} {end : Bool} {time : Float} {slot : ℕ} {sl sl' : Slots} (hs : slot < 64) (hk : k < 2 ^ 62) where
   pub main-steps : {r : MainStepped} → streamModel s base depth .«is_video» ≡ false → main-work.StepOf w (streamModel s base depth .main) b d end time slot sl r u sl'
       → StepIs w u s base depth k slot sl sl' (stepBranch (s .model .branch) depth d end time (x .branch)) (r .full) (r .branch) v
@@ -202,7 +202,7 @@ module _ {lo hi : ℕ} {w u : List Float} (o : SameOutside lo hi w u) where
       video-is rbx mb eb (ap video (video-kept p v l h) ∙ i .branch)
       (record { leak = record { runs = lies-kept o (l .leak .runs); marks = lies-kept o (l .leak .marks) }; pending = lies-kept o (l .pending) }) (rw (o .size) (i .room)) (i .units)
 
-module _ {w : List Float} {s : TStdStream} {base depth k : ℕ} {t : Transport} {b : MainBranch} {v : VideoBranch} {x : Chain} (c : ChainIs w s base depth k t b v x) where
+module _ {w : List Float} {s : TStdStream} {base depth k : ℕ} {t : FluidFifo} {b : MainBranch} {v : VideoBranch} {x : Chain} (c : ChainIs w s base depth k t b v x) where
   pub chain-kept : {lo hi : ℕ} {u : List Float} → SameOutside lo hi w u → (base + 8 * depth ≤ lo) ⊎ (hi ≤ base) → ChainIs u s base depth k t b v x
   chain-kept o h = chain-of (c .tb) (kept-by o (s .model .branch) (s .pid) base depth k b v (x .branch) (of-chain c) h)
 
@@ -220,12 +220,12 @@ video-here : (w : List Float) (m : StreamModel) (b : MainBranch) (v : VideoBranc
 unfolding branchIn
 video-here w m b v y h e = rw h at e
 
-module _ {w : List Float} {s : TStdStream} {base depth k : ℕ} {t : Transport} {b : MainBranch} {v : VideoBranch} {x : Chain} (c : ChainIs w s base depth k t b v x) where
+module _ {w : List Float} {s : TStdStream} {base depth k : ℕ} {t : FluidFifo} {b : MainBranch} {v : VideoBranch} {x : Chain} (c : ChainIs w s base depth k t b v x) where
   pub stats-main : streamModel s base depth .«is_video» ≡ false
       → statsOf s x
       ≡ record {
         pid = s .pid;
-        «peak_tb_bytes» = toUnsigned 64 (t .tb .peak);
+        «peak_tb_bytes» = toUnsigned 64 (t .peak);
         «peak_main_bytes» = toUnsigned 64 (b .peak);
         «peak_eb_bytes» = 0;
         «access_units» = b .«access_units»;
@@ -241,7 +241,7 @@ module _ {w : List Float} {s : TStdStream} {base depth k : ℕ} {t : Transport} 
       → statsOf s x
       ≡ record {
         pid = s .pid;
-        «peak_tb_bytes» = toUnsigned 64 (t .tb .peak);
+        «peak_tb_bytes» = toUnsigned 64 (t .peak);
         «peak_main_bytes» = toUnsigned 64 (v .leak .«mb_peak»);
         «peak_eb_bytes» = toUnsigned 64 (v .leak .flow .«eb_peak»);
         «access_units» = v .«access_units»;

@@ -73,7 +73,7 @@ module _ (c : TStdConfig) (r : RanState) where
 
   pub accepted-made : (samples : ℕ) (sl : Slots) (x : TStdReport) (seconds : Float) (fs : Figures) → sl ≡ lastSlots c r → x ≡ summary c sl
       → seconds ≡ cond (lt (r .times .«first_time») (r .times .«last_time»)) (r .times .«last_time» ⊖ r .times .«first_time») 0f
-      → fs ≡ figuresOf (rowsFrom 0 (streamsOf c) (r .transports) (r .mains) (r .videos) ++ systemRows c (r .system))
+      → fs ≡ figuresOf (rowsFrom 0 (streamsOf c) (r .tbs) (r .mains) (r .videos) ++ systemRows c (r .system))
       → _≡_ {A = Answer} (record {
         code = codeNumbered 0;
         report = record {
@@ -234,7 +234,7 @@ module _ (c : TStdConfig) (l : List ℕ) (y : TsPacketLayout) (times : List Floa
         accepted-is before f =
             rw (
               report-is f,
-              rows-are c (f .state) (ran .transports) (ran .mains) (ran .videos) times'' (c .«queue_depth») _ (ran .system) (f .at .chains) (f .at .system-tb) (f .at .system-branch),
+              rows-are c (f .state) (ran .tbs) (ran .mains) (ran .videos) times'' (c .«queue_depth») _ (ran .system) (f .at .chains) (f .at .system-tb) (f .at .system-branch),
             )
             refl
 

@@ -1,15 +1,14 @@
 -- The replay by steps of pass 2: what is left behind k steps in a state, and how a step goes on, is refused, or was the last.
-use Prim.Native.Nat.{ℕ, zero, suc, _+_, _-_, _*_, _≤_, _<_, min}
+use Prim.Native.Nat.{ℕ, suc, _+_, _-_, _≤_, _<_, min}
 use native.Mathlib.Omega.{arith}
-use mathlib.Core.Path.{_≡_, refl, sym, ap, _∙_}
+use mathlib.Core.Path.{_≡_, refl, _∙_}
 use mathlib.Core.Bool.{Bool, true, false, cond}
-use mathlib.Core.List.{List}
 use lib.ListN.{length}
 use lib.Dec.{ltb}
-use borrow.Author.Tests.{ltb-true, ltb-false, lt-ltb, le-ltb}
+use borrow.Author.Tests.{ltb-true, ltb-false}
 use Rattle.error.specs.declared.Refusal.{Refusal}
 use Rattle.profile.specs.Config.{streamsOf}
-use Rattle.model.specs.Replay.{State, Ran, running, full, Outcome, refusedWith, started, orFull}
+use Rattle.model.specs.Replay.{State, Ran, running, full, refusedWith, started, orFull}
 use Rattle.tstd.specs.Rest.{finished}
 use Rattle.tstd.specs.Run.{Pass, streamCount, clockOf, stepOf, packetsLeft, endsLeft, whole}
 use Rattle.tstd.proofs.Rest.{packet-next, packets-through, end-next, ends-through}

@@ -9,6 +9,7 @@ pub mod Cleared
 pub mod Going
 pub mod Steps
 pub mod Turns
+pub mod Scanned
 pub mod Moves
 pub mod Looping
 pub mod Sound

@@ -4,19 +4,15 @@ use native.Mathlib.Omega.{arith}
 use native.Mathlib.Nat.{mul-le-mul}
 use mathlib.Core.Path.{_≡_, refl, sym, ap, _∙_, subst}
 use mathlib.Core.Bool.{Bool, true, false, cond, true≢false}
-use mathlib.Core.List.{List, [], _∷_, _++_, map}
-use mathlib.Core.Logic.{_⊎_, inl, inr, ⊎-elim, _≢_}
+use mathlib.Core.List.{List, []}
+use mathlib.Core.Logic.{_≢_}
 use lib.ListN.{length, getD, set, take, drop, replicate, length-map, List·getD-map}
 use lib.Dec.{leb}
 use lib.Ieee.{Float}
 use borrow.Author.Tests.{leb-true}
 use Rattle.profile.proofs.Ranges.{and-left}
-use Rattle.ieee.specs.Binary64.{0f, +∞, -∞}
 use Rattle.error.specs.declared.Refusal.{Refusal}
-use Rattle.packet.specs.Packet.{parseOf}
 use Rattle.recording.specs.Read.{packetAt}
-use Rattle.recording.proofs.Facts.{scanner-new}
-use Rattle.arrival.specs.declared.PacketArrival.{PacketArrival}
 use Rattle.arrival.specs.Work.{startOfArrival, nextArrival, holds}
 use Rattle.arrival.proofs.Covering.{starts}
 use Rattle.events.specs.Slots.{Slots, slots, notedAll}
@@ -35,29 +31,32 @@ use Rattle.profile.specs.declared.owner.Pids.{Pids}
 use Rattle.profile.specs.Owner.{ownerOf, pidsOf}
 use Rattle.profile.proofs.Ownership.{owner-slot}
 use Rattle.summary.specs.Summary.{emptySlots, notedFound}
-use Rattle.transport.specs.declared.Transport.{Transport}
+use Rattle.fifo.specs.declared.FluidFifo.{FluidFifo}
+use Rattle.scanner.specs.declared.PesScanner.{PesScanner}
+use Rattle.scanner.specs.declared.Runs.{Runs}
+use Rattle.scanner.specs.State.{idle}
 use Rattle.transport.specs.declared.Arrived.{Arrived}
-use Rattle.transport.specs.Transport.{newTransport}
-use Rattle.transport.proofs.Arrivals.{new-tb, new-scanner}
-use Rattle.model.specs.Chain.{Chain, newChain, stepBranch}
-use Rattle.model.specs.Replay.{State, started, Ran, running, full, refusedWith, streamAt, chainAt}
+use Rattle.scanner.proofs.Steps.{new-is as scanner-new-is}
+use Rattle.model.specs.Chain.{newChain, stepBranch}
+use Rattle.model.specs.Replay.{State, started, full, refusedWith, streamAt, chainAt}
 use Rattle.tstd.specs.declared.moment.Moment.{Moment}
 use Rattle.tstd.specs.declared.moment.Times.{Times}
 use Rattle.tstd.specs.declared.front.SystemChain.{SystemChain}
 use Rattle.tstd.specs.declared.stream.StreamModel.{StreamModel}
 use Rattle.tstd.specs.declared.run.Ran.{Ran as RanState}
-use Rattle.tstd.specs.InWork.{ChainIs, streamModel, unusedModel, unusedTransport, ModelsOf, TransportsOf}
-use Rattle.tstd.specs.Moments.{ownerIndex, momentOf, startTimes, nextTimes, endMoment, FrontOf, newSystem, systemRun, systemPushed}
-use Rattle.tstd.specs.Run.{Pass, streamCount, depthOf, clockFrom, clockOf, Ready, stepOf, whole, Reached, before-all, one-more, At, Finished, RanTo}
+use Rattle.tstd.specs.InWork.{streamModel, unusedTb, TbsOf}
+use Rattle.tstd.specs.Moments.{ownerIndex, momentOf, startTimes, nextTimes, BufferOf, FrontOf, newSystem, systemRun, systemPushed}
+use Rattle.tstd.specs.Run.{Pass, streamCount, depthOf, clockFrom, Ready, whole, Reached, before-all, one-more, At, RanTo}
 use Rattle.tstd.proofs.ChainIs.{new-is, StepIs, main-steps, video-steps}
 use Rattle.tstd.proofs.Going.{Going, going-starts, going-next, step-refused, going-done}
 use Rattle.tstd.proofs.Steps.{PacketIs, MomentIs, at-end, at-unparsed, at-packet, moment-is, window-is, count-few, streams-counted, stream-used}
 use Rattle.tstd.proofs.Turns.{Turned, Moves, Replaced, replaced-set, replaced-none, stream-full, stream-turns}
+use Rattle.tstd.proofs.Scanned.{Scanned, front-scanned}
 use Rattle.tstd.proofs.Moves.{packet-moves, system-turns, nobody-turns, unparsed-turns, end-moves}
 
-pub record Looping (g : Pass) (ready : Ready g) (k at : ℕ) (isFull : Bool) (w : List Float) (ts : List Transport) (ms : List MainBranch) (vs : List VideoBranch) (system : SystemChain) (times : Times) (sl : Slots) : Type 0 where
+pub record Looping (g : Pass) (ready : Ready g) (k at : ℕ) (isFull : Bool) (w : List Float) (ts : List FluidFifo) (ss : List PesScanner) (ms : List MainBranch) (vs : List VideoBranch) (system : SystemChain) (times : Times) (sl : Slots) : Type 0 where
   pub state : State
-  pub now : At g ready k w ts ms vs system times sl state
+  pub now : At g ready k w ts ss ms vs system times sl state
   pub going : Going g k state
   pub reached : Reached g k state
   pub placed : at ≡ g .layout .«sync_offset» + k * g .layout .«packet_size»
@@ -65,9 +64,9 @@ pub record Looping (g : Pass) (ready : Ready g) (k at : ℕ) (isFull : Bool) (w 
   pub few : k ≤ g .count + streamCount g
 
 -- the invariant as the loop states it
-pub record LoopInv (g : Pass) (k at : ℕ) (isFull : Bool) (w : List Float) (ts : List Transport) (ms : List MainBranch) (vs : List VideoBranch) (system : SystemChain) (times : Times) (sl : Slots) : Type 0 where
+pub record LoopInv (g : Pass) (k at : ℕ) (isFull : Bool) (w : List Float) (ts : List FluidFifo) (ss : List PesScanner) (ms : List MainBranch) (vs : List VideoBranch) (system : SystemChain) (times : Times) (sl : Slots) : Type 0 where
   pub ready : Ready g
-  pub loop : Looping g ready k at isFull w ts ms vs system times sl
+  pub loop : Looping g ready k at isFull w ts ss ms vs system times sl
 
 -- places of the recording are few
 pub at-fits : (g : Pass) (ready : Ready g) (k at : ℕ) → at ≡ g .layout .«sync_offset» + k * g .layout .«packet_size» → k < g .count + streamCount g → at + g .layout .«packet_size» < 2 ^ 64
@@ -98,26 +97,27 @@ module _ (g : Pass) (ready : Ready g) where
   unfolding started
   first-chain i h = List·getD-map newChain (streamsOf (g .config)) i unusedStream ∙ ap newChain (stream-used g i h)
 
-  pub loop-starts : (ts : List Transport) (ms : List MainBranch) (vs : List VideoBranch) (system : SystemChain) (times : Times) (sl : Slots)
-      → TransportsOf (g .config .streams) 8 ts → ms ≡ replicate 8 main-work.newBranch → vs ≡ replicate 8 video-work.newBranch → system ≡ newSystem
+  pub loop-starts : (ts : List FluidFifo) (ss : List PesScanner) (ms : List MainBranch) (vs : List VideoBranch) (system : SystemChain) (times : Times) (sl : Slots)
+      → TbsOf (g .config .streams) 8 ts → ss ≡ replicate 8 idle → ms ≡ replicate 8 main-work.newBranch → vs ≡ replicate 8 video-work.newBranch → system ≡ newSystem
       → (n : ℕ) → n ≡ suc (g .last) → times ≡ startTimes (startOfArrival (g .work) (clockFrom g) (g .places) n) → sl ≡ emptySlots
-      → Looping g ready 0 (g .layout .«sync_offset») false (g .work) ts ms vs system times sl
+      → Looping g ready 0 (g .layout .«sync_offset») false (g .work) ts ss ms vs system times sl
   unfolding started newSystem notedFound
-  loop-starts ts ms vs system times sl t em ev es n en et₀ e =
+  loop-starts ts ss ms vs system times sl t ez em ev es n en et₀ e =
       let et : times ≡ startTimes (startOfArrival (g .work) (clockFrom g) (g .places) (suc (g .last))) = et₀ ∙ ap (λ (z : ℕ). startTimes (startOfArrival (g .work) (clockFrom g) (g .places) z)) en in
       record {
         state = started (g .config);
         now = record {
           outside = outside-refl 0 (clockFrom g) (g .work);
           ts-size = t .size;
+          ss-size = ap length ez;
           ms-size = ap length em;
           vs-size = ap length ev;
           chains-size = length-map (streamsOf (g .config)) newChain ∙ streams-counted g ready;
           chains = λ i h.
               rw (em, ev, getD-replicate main-work.newBranch 8 i, getD-replicate video-work.newBranch 8 i, first-chain i h)
-              (new-is (g .work) (streamAt (g .config) i) (8 * depthOf g * i) (depthOf g) (getD ts i unusedTransport) (ready .some-depth) (in-work i h)
-              (ap (λ (z : Transport). z .tb) (t .at i (let a = ready .few in omega arith)) ∙ new-tb _));
-          scanners = λ c i h o. ap (λ (z : Transport). z .scanner) (t .at i (let a = ready .few in omega arith)) ∙ new-scanner _;
+              (new-is (g .work) (streamAt (g .config) i) (8 * depthOf g * i) (depthOf g) (getD ts i unusedTb) (ready .some-depth) (in-work i h)
+              (t .at i (let a = ready .few in omega arith)));
+          scanners = λ c i h o. rw (ez, getD-replicate idle 8 i) scanner-new-is;
           system-tb = ap (λ (z : SystemChain). z .tb) es;
           system-branch = ap (λ (z : SystemChain). z .branch) es;
           first = ap (λ (z : Times). z .«first_time») et;
@@ -134,14 +134,14 @@ module _ (g : Pass) (ready : Ready g) where
 
 -- ---- its turns
 
-module _ (g : Pass) (ready : Ready g) (k at : ℕ) (isFull : Bool) (w : List Float) (ts : List Transport) (ms : List MainBranch) (vs : List VideoBranch) (system : SystemChain) (times : Times) (sl : Slots)
-    (inv : Looping g ready k at isFull w ts ms vs system times sl) (h : k < g .count + streamCount g) where
+module _ (g : Pass) (ready : Ready g) (k at : ℕ) (isFull : Bool) (w : List Float) (ts : List FluidFifo) (ss : List PesScanner) (ms : List MainBranch) (vs : List VideoBranch) (system : SystemChain) (times : Times) (sl : Slots)
+    (inv : Looping g ready k at isFull w ts ss ms vs system times sl) (h : k < g .count + streamCount g) where
   abbrev s : State
   s = inv .state
 
-  pub loop-next : (u : List Float) (ts' : List Transport) (ms' : List MainBranch) (vs' : List VideoBranch) (system' : SystemChain) (times' : Times) (sl' : Slots) (isFull' : Bool) → isFull' ≡ false
-      → Turned g ready k s u ts' ms' vs' system' times' sl' → Looping g ready (k + 1) (at + g .layout .«packet_size») isFull' u ts' ms' vs' system' times' sl'
-  loop-next u ts' ms' vs' system' times' sl' isFull' f t =
+  pub loop-next : (u : List Float) (ts' : List FluidFifo) (ss' : List PesScanner) (ms' : List MainBranch) (vs' : List VideoBranch) (system' : SystemChain) (times' : Times) (sl' : Slots) (isFull' : Bool) → isFull' ≡ false
+      → Turned g ready k s u ts' ss' ms' vs' system' times' sl' → Looping g ready (k + 1) (at + g .layout .«packet_size») isFull' u ts' ss' ms' vs' system' times' sl'
+  loop-next u ts' ss' ms' vs' system' times' sl' isFull' f t =
       let e : suc k ≡ k + 1 = omega arith in
       let one : g .layout .«sync_offset» + suc k * g .layout .«packet_size» ≡ g .layout .«sync_offset» + k * g .layout .«packet_size» + g .layout .«packet_size» = omega arith in
       rw (← e)
@@ -169,47 +169,47 @@ module _ (g : Pass) (ready : Ready g) (k at : ℕ) (isFull : Bool) (w : List Flo
 
     -- a packet of nobody, or one that does not parse
     module _ (far : 8 ≤ m .owner) (not-eight : m .owner ≢ 8) where
-      by-owner : (p : PacketIs g k m) → k < g .count → (o : Owner) → ownerOf (g .config) (p .packet .pid) ≡ o → Turned g ready k s w ts ms vs system times' sl
+      by-owner : (p : PacketIs g k m) → k < g .count → (o : Owner) → ownerOf (g .config) (p .packet .pid) ≡ o → Turned g ready k s w ts ss ms vs system times' sl
       by-owner p c (Owner.Stream i) e =
           let a = owner-slot (g .config) (p .packet .pid) i e .counted in
           let b = ready .few in
           let d : m .owner ≡ i = ap (λ (z : Moment). z .owner) (p .moment) ∙ ap ownerIndex e in
           absurd (omega arith)
       by-owner p c Owner.System e = absurd (not-eight (ap (λ (z : Moment). z .owner) (p .moment) ∙ ap ownerIndex e))
-      by-owner p c Owner.Nobody e = nobody-turns g ready k w ts ms vs system times times' sl s m (inv .now) next c p e
+      by-owner p c Owner.Nobody e = nobody-turns g ready k w ts ss ms vs system times times' sl s m (inv .now) next c p e
 
-      by-moment : MomentIs g k m → Turned g ready k s w ts ms vs system times' sl
+      by-moment : MomentIs g k m → Turned g ready k s w ts ss ms vs system times' sl
       by-moment (at-end c e) =
           let b = ready .few in
           let d : m .owner ≡ k - g .count = ap (λ (z : Moment). z .owner) e in
           absurd (omega arith)
-      by-moment (at-unparsed c f e) = unparsed-turns g ready k w ts ms vs system times times' sl s m (inv .now) next c f (ap (λ (z : Moment). z .end) e) (ap (λ (z : Moment). z .parsed) e)
+      by-moment (at-unparsed c f e) = unparsed-turns g ready k w ts ss ms vs system times times' sl s m (inv .now) next c f (ap (λ (z : Moment). z .end) e) (ap (λ (z : Moment). z .parsed) e)
       by-moment (at-packet c p) = by-owner p c (ownerOf (g .config) (p .packet .pid)) refl
 
-      idle-turn : Turned g ready k s w ts ms vs system times' sl
+      idle-turn : Turned g ready k s w ts ss ms vs system times' sl
       idle-turn = by-moment moment
 
-      pub idle-again : (w₂ : List Float) (ts₂ : List Transport) (ms₂ : List MainBranch) (vs₂ : List VideoBranch) (system₂ : SystemChain) (firsts₂ : List ℕ) (figures₂ : List Float) (full₂ : Bool)
-          → w₂ ≡ w → ts₂ ≡ ts → ms₂ ≡ ms → vs₂ ≡ vs → system₂ ≡ system → slots firsts₂ figures₂ ≡ sl → full₂ ≡ isFull
-          → LoopInv g (k + 1) (at + g .layout .«packet_size») full₂ w₂ ts₂ ms₂ vs₂ system₂ times' (slots firsts₂ figures₂)
-      idle-again w₂ ts₂ ms₂ vs₂ system₂ firsts₂ figures₂ full₂ ew et em ev es el ef =
-          record { ready = ready; loop = rw (ew, et, em, ev, es, el) (loop-next w ts ms vs system times' sl full₂ (ef ∙ inv .not-full) idle-turn) }
+      pub idle-again : (w₂ : List Float) (ts₂ : List FluidFifo) (ss₂ : List PesScanner) (ms₂ : List MainBranch) (vs₂ : List VideoBranch) (system₂ : SystemChain) (firsts₂ : List ℕ) (figures₂ : List Float) (full₂ : Bool)
+          → w₂ ≡ w → ts₂ ≡ ts → ss₂ ≡ ss → ms₂ ≡ ms → vs₂ ≡ vs → system₂ ≡ system → slots firsts₂ figures₂ ≡ sl → full₂ ≡ isFull
+          → LoopInv g (k + 1) (at + g .layout .«packet_size») full₂ w₂ ts₂ ss₂ ms₂ vs₂ system₂ times' (slots firsts₂ figures₂)
+      idle-again w₂ ts₂ ss₂ ms₂ vs₂ system₂ firsts₂ figures₂ full₂ ew et ez em ev es el ef =
+          record { ready = ready; loop = rw (ew, et, ez, em, ev, es, el) (loop-next w ts ss ms vs system times' sl full₂ (ef ∙ inv .not-full) idle-turn) }
 
     -- a packet of the system chain
     module _ (eight : m .owner ≡ 8) (system' : SystemChain) (sl' : Slots) (e : system' ≡ systemPushed system (times' .arrival))
         (f : sl' ≡ notedAll 49 (sysEvents (system .branch) (systemRun system (times' .arrival)) (rsysOf (times' .arrival .cursor .interval .rate))) sl) where
-      system-by-owner : (p : PacketIs g k m) → k < g .count → (o : Owner) → ownerOf (g .config) (p .packet .pid) ≡ o → Turned g ready k s w ts ms vs system' times' sl'
+      system-by-owner : (p : PacketIs g k m) → k < g .count → (o : Owner) → ownerOf (g .config) (p .packet .pid) ≡ o → Turned g ready k s w ts ss ms vs system' times' sl'
       system-by-owner p c (Owner.Stream i) r =
           let a = owner-slot (g .config) (p .packet .pid) i r .counted in
           let b = ready .few in
           let d : m .owner ≡ i = ap (λ (z : Moment). z .owner) (p .moment) ∙ ap ownerIndex r in
           absurd (omega arith)
-      system-by-owner p c Owner.System r = system-turns g ready k w ts ms vs system times times' sl s m (inv .now) next c p r system' sl' e f
+      system-by-owner p c Owner.System r = system-turns g ready k w ts ss ms vs system times times' sl s m (inv .now) next c p r system' sl' e f
       system-by-owner p c Owner.Nobody r =
           let d : m .owner ≡ 9 = ap (λ (z : Moment). z .owner) (p .moment) ∙ ap ownerIndex r in
           absurd (omega arith)
 
-      system-by-moment : MomentIs g k m → Turned g ready k s w ts ms vs system' times' sl'
+      system-by-moment : MomentIs g k m → Turned g ready k s w ts ss ms vs system' times' sl'
       system-by-moment (at-end c r) =
           let b = ready .few in
           let d : m .owner ≡ k - g .count = ap (λ (z : Moment). z .owner) r in
@@ -219,26 +219,29 @@ module _ (g : Pass) (ready : Ready g) (k at : ℕ) (isFull : Bool) (w : List Flo
           absurd (omega arith)
       system-by-moment (at-packet c p) = system-by-owner p c (ownerOf (g .config) (p .packet .pid)) refl
 
-      system-turn : Turned g ready k s w ts ms vs system' times' sl'
+      system-turn : Turned g ready k s w ts ss ms vs system' times' sl'
       system-turn = system-by-moment moment
 
-      pub system-again : (w₂ : List Float) (ts₂ : List Transport) (ms₂ : List MainBranch) (vs₂ : List VideoBranch) (system₂ : SystemChain) (firsts₂ : List ℕ) (figures₂ : List Float) (full₂ : Bool)
-          → w₂ ≡ w → ts₂ ≡ ts → ms₂ ≡ ms → vs₂ ≡ vs → system₂ ≡ system' → slots firsts₂ figures₂ ≡ sl' → full₂ ≡ isFull
-          → LoopInv g (k + 1) (at + g .layout .«packet_size») full₂ w₂ ts₂ ms₂ vs₂ system₂ times' (slots firsts₂ figures₂)
-      system-again w₂ ts₂ ms₂ vs₂ system₂ firsts₂ figures₂ full₂ ew et em ev es el ef =
-          record { ready = ready; loop = rw (ew, et, em, ev, es, el) (loop-next w ts ms vs system' times' sl' full₂ (ef ∙ inv .not-full) system-turn) }
+      pub system-again : (w₂ : List Float) (ts₂ : List FluidFifo) (ss₂ : List PesScanner) (ms₂ : List MainBranch) (vs₂ : List VideoBranch) (system₂ : SystemChain) (firsts₂ : List ℕ) (figures₂ : List Float) (full₂ : Bool)
+          → w₂ ≡ w → ts₂ ≡ ts → ss₂ ≡ ss → ms₂ ≡ ms → vs₂ ≡ vs → system₂ ≡ system' → slots firsts₂ figures₂ ≡ sl' → full₂ ≡ isFull
+          → LoopInv g (k + 1) (at + g .layout .«packet_size») full₂ w₂ ts₂ ss₂ ms₂ vs₂ system₂ times' (slots firsts₂ figures₂)
+      system-again w₂ ts₂ ss₂ ms₂ vs₂ system₂ firsts₂ figures₂ full₂ ew et ez em ev es el ef =
+          record { ready = ready; loop = rw (ew, et, ez, em, ev, es, el) (loop-next w ts ss ms vs system' times' sl' full₂ (ef ∙ inv .not-full) system-turn) }
 
     -- a step of stream i
-    module _ (i : ℕ) (owner : i ≡ m .owner) (near : i < 8) (t : Transport) (is-t : t ≡ getD ts i unusedTransport) (a : Arrived) (sl₁ : Slots)
-        (f : FrontOf t window m (times' .arrival) (1 + 6 * i) sl a sl₁) where
-      front : FrontOf (getD ts i unusedTransport) (packetAt (g .layout) (g .recording) k) m (times' .arrival) (1 + 6 * i) sl a sl₁
-      front = rw (← packet, ← is-t) f
+    module _ (i : ℕ) (owner : i ≡ m .owner) (near : i < 8) (t : FluidFifo) (is-t : t ≡ getD ts i unusedTb) (runs : Runs) (ss' : List PesScanner)
+        (scanned : Scanned ss i window m runs ss') (a : Arrived) (sl₁ : Slots) (f : BufferOf t runs m (times' .arrival) (1 + 6 * i) sl a sl₁) where
+      abbrev sc : PesScanner
+      sc = scanned .scanner
+
+      front : FrontOf (getD ts i unusedTb) (getD ss i idle) (packetAt (g .layout) (g .recording) k) m (times' .arrival) (1 + 6 * i) sl (a .tb) sc (a .delivered) sl₁
+      front = rw (← packet, ← is-t) (front-scanned scanned f)
 
       moves-by-owner : (p : PacketIs g k m) → k < g .count → (o : Owner) → ownerOf (g .config) (p .packet .pid) ≡ o
-          → Moves g ready k ts s i (a .transport) (a .delivered) (m .end) (times' .arrival .t0) times' sl sl₁
+          → Moves g ready k s i (a .tb) sc (a .delivered) (m .end) (times' .arrival .t0) times' sl sl₁
       moves-by-owner p c (Owner.Stream j) r =
           let d : i ≡ j = owner ∙ ap (λ (z : Moment). z .owner) (p .moment) ∙ ap ownerIndex r in
-          packet-moves g ready k w ts ms vs system times times' sl s m (inv .now) next c p i (r ∙ ap Owner.Stream (sym d)) (1 + 6 * i) a sl₁ front
+          packet-moves g ready k w ts ss ms vs system times times' sl s m (inv .now) next c p i (r ∙ ap Owner.Stream (sym d)) (1 + 6 * i) (a .tb) sc (a .delivered) sl₁ front
       moves-by-owner p c Owner.System r =
           let d : i ≡ 8 = owner ∙ ap (λ (z : Moment). z .owner) (p .moment) ∙ ap ownerIndex r in
           absurd (omega arith)
@@ -246,19 +249,19 @@ module _ (g : Pass) (ready : Ready g) (k at : ℕ) (isFull : Bool) (w : List Flo
           let d : i ≡ 9 = owner ∙ ap (λ (z : Moment). z .owner) (p .moment) ∙ ap ownerIndex r in
           absurd (omega arith)
 
-      moves-by-moment : MomentIs g k m → Moves g ready k ts s i (a .transport) (a .delivered) (m .end) (times' .arrival .t0) times' sl sl₁
+      moves-by-moment : MomentIs g k m → Moves g ready k s i (a .tb) sc (a .delivered) (m .end) (times' .arrival .t0) times' sl sl₁
       moves-by-moment (at-end c r) =
           let d : i ≡ k - g .count = owner ∙ ap (λ (z : Moment). z .owner) r in
-          let F : FrontOf (getD ts (k - g .count) unusedTransport) (packetAt (g .layout) (g .recording) k) m (times' .arrival) (1 + 6 * i) sl a sl₁ =
-          subst (λ (j : ℕ). FrontOf (getD ts j unusedTransport) (packetAt (g .layout) (g .recording) k) m (times' .arrival) (1 + 6 * i) sl a sl₁) d front in
-          subst (λ (j : ℕ). Moves g ready k ts s j (a .transport) (a .delivered) (m .end) (times' .arrival .t0) times' sl sl₁) (sym d)
-          (end-moves g ready k w ts ms vs system times times' sl s m (inv .now) next c h r (1 + 6 * i) a sl₁ (ap (λ (j : ℕ). 1 + 6 * j) d) F)
+          let F : FrontOf (getD ts (k - g .count) unusedTb) (getD ss (k - g .count) idle) (packetAt (g .layout) (g .recording) k) m (times' .arrival) (1 + 6 * i) sl (a .tb) sc (a .delivered) sl₁ =
+          subst (λ (j : ℕ). FrontOf (getD ts j unusedTb) (getD ss j idle) (packetAt (g .layout) (g .recording) k) m (times' .arrival) (1 + 6 * i) sl (a .tb) sc (a .delivered) sl₁) d front in
+          subst (λ (j : ℕ). Moves g ready k s j (a .tb) sc (a .delivered) (m .end) (times' .arrival .t0) times' sl sl₁) (sym d)
+          (end-moves g ready k w ts ss ms vs system times times' sl s m (inv .now) next c h r (1 + 6 * i) (a .tb) sc (a .delivered) sl₁ (ap (λ (j : ℕ). 1 + 6 * j) d) F)
       moves-by-moment (at-unparsed c q r) =
           let d : i ≡ 9 = owner ∙ ap (λ (z : Moment). z .owner) r in
           absurd (omega arith)
       moves-by-moment (at-packet c p) = moves-by-owner p c (ownerOf (g .config) (p .packet .pid)) refl
 
-      moves : Moves g ready k ts s i (a .transport) (a .delivered) (m .end) (times' .arrival .t0) times' sl sl₁
+      moves : Moves g ready k s i (a .tb) sc (a .delivered) (m .end) (times' .arrival .t0) times' sl sl₁
       moves = moves-by-moment moment
 
       few-steps : k < 2 ^ 62
@@ -268,13 +271,13 @@ module _ (g : Pass) (ready : Ready g) (k at : ℕ) (isFull : Bool) (w : List Flo
           omega arith
 
       -- what the step gives, whatever the branch
-      pub record StreamTurn (u : List Float) (ts' : List Transport) (ms' : List MainBranch) (vs' : List VideoBranch) (stFull : Bool) (sl' : Slots) : Type 0 where
-        pub turns : stFull ≡ false → Turned g ready k s u ts' ms' vs' system times' sl'
+      pub record StreamTurn (u : List Float) (ts' : List FluidFifo) (ms' : List MainBranch) (vs' : List VideoBranch) (stFull : Bool) (sl' : Slots) : Type 0 where
+        pub turns : stFull ≡ false → Turned g ready k s u ts' ss' ms' vs' system times' sl'
         pub refuses : stFull ≡ true → (samples : ℕ) → whole g samples ≡ refusedWith (Refusal.QueueFull (min k (g .count)) (streamAt (g .config) i .pid))
         pub outside : SameOutside 0 (clockFrom g) (g .work) u
 
       -- a push met a full queue, and the loop is left
-      pub stream-refuses : {u : List Float} {ts' : List Transport} {ms' : List MainBranch} {vs' : List VideoBranch} {stFull : Bool} {sl' : Slots} → StreamTurn u ts' ms' vs' stFull sl'
+      pub stream-refuses : {u : List Float} {ts' : List FluidFifo} {ms' : List MainBranch} {vs' : List VideoBranch} {stFull : Bool} {sl' : Slots} → StreamTurn u ts' ms' vs' stFull sl'
           → (r : RanState) → r .full ≡ true → stFull ≡ true → r .step ≡ k → r .owner ≡ i → RanTo g r u
       stream-refuses x r ef e es eo =
           record {
@@ -285,22 +288,22 @@ module _ (g : Pass) (ready : Ready g) (k at : ℕ) (isFull : Bool) (w : List Flo
           }
 
       -- the loop goes on
-      pub stream-again : {u : List Float} {ts' : List Transport} {ms' : List MainBranch} {vs' : List VideoBranch} {stFull : Bool} {sl' : Slots} → StreamTurn u ts' ms' vs' stFull sl' → stFull ≡ false
-          → Looping g ready (k + 1) (at + g .layout .«packet_size») stFull u ts' ms' vs' system times' sl'
-      stream-again x e = loop-next _ _ _ _ _ _ _ _ e (x .turns e)
+      pub stream-again : {u : List Float} {ts' : List FluidFifo} {ms' : List MainBranch} {vs' : List VideoBranch} {stFull : Bool} {sl' : Slots} → StreamTurn u ts' ms' vs' stFull sl' → stFull ≡ false
+          → Looping g ready (k + 1) (at + g .layout .«packet_size») stFull u ts' ss' ms' vs' system times' sl'
+      stream-again x e = loop-next _ _ _ _ _ _ _ _ _ e (x .turns e)
 
-      module _ (model : StreamModel) (is-model : model ≡ streamModel (streamAt (g .config) i) (8 * depthOf g * i) (depthOf g)) (u : List Float) (sl' : Slots) (ts' : List Transport) (is-ts : ts' ≡ set ts i (a .transport)) where
+      module _ (model : StreamModel) (is-model : model ≡ streamModel (streamAt (g .config) i) (8 * depthOf g * i) (depthOf g)) (u : List Float) (sl' : Slots) (ts' : List FluidFifo) (is-ts : ts' ≡ set ts i (a .tb)) where
         any-turn : (ms' : List MainBranch) (vs' : List VideoBranch) (b : MainBranch) (v : VideoBranch) (stFull : Bool)
             → StepIs w u (streamAt (g .config) i) (8 * depthOf g * i) (depthOf g) k (1 + 6 * i) sl₁ sl' (stepBranch (streamAt (g .config) i .model .branch) (depthOf g) (a .delivered) (m .end) (times' .arrival .t0) (chainAt (g .config) s i .branch)) stFull b v
             → Replaced main-work.newBranch ms i b ms' → Replaced video-work.newBranch vs i v vs' → StreamTurn u ts' ms' vs' stFull sl'
         any-turn ms' vs' b v stFull x rm rv =
             record {
               turns = λ e.
-                  stream-turns g ready k w u ts ts' ms ms' vs vs' system times times' sl sl₁ sl' s i (a .transport) (a .delivered) (m .end) (times' .arrival .t0) b v stFull (inv .now) moves x
-                  (rw is-ts (replaced-set unusedTransport ts i (a .transport) (inv .now .ts-size) near)) rm rv e;
+                  stream-turns g ready k w u ts ts' ss ss' ms ms' vs vs' system times times' sl sl₁ sl' s i (a .tb) sc (a .delivered) (m .end) (times' .arrival .t0) b v stFull (inv .now) moves x
+                  (rw is-ts (replaced-set unusedTb ts i (a .tb) (inv .now .ts-size) near)) (scanned .replaced) rm rv e;
               refuses = λ e samples.
                   step-refused g k s (streams-counted g ready) h (inv .going) samples _
-                  (stream-full g ready k w u ts ts' ms ms' vs vs' system times times' sl sl₁ sl' s i (a .transport) (a .delivered) (m .end) (times' .arrival .t0) b v stFull (inv .now) moves x e);
+                  (stream-full g ready k w u ts ts' ss ss' ms ms' vs vs' system times times' sl sl₁ sl' s i (a .tb) sc (a .delivered) (m .end) (times' .arrival .t0) b v stFull (inv .now) moves x e);
               outside = outside-then (inv .now .outside) (outside-wider (omega arith) (next-multiple (8 * depthOf g) i (streamCount g) (moves .in-use)) (x .outside));
             }
 
@@ -334,27 +337,27 @@ module _ (g : Pass) (ready : Ready g) (k at : ℕ) (isFull : Bool) (w : List Flo
               → (r : RanState) → r .full ≡ true → st .full ≡ true → r .step ≡ k → r .owner ≡ i → RanTo g r u₂
           video-refuses kind v is-v st x r ef e es eo = rw e-u (stream-refuses (video-turn kind v is-v st x (set vs i (st .branch)) refl) r ef e es eo)
 
-          module _ (ts₂ : List Transport) (e-ts : ts₂ ≡ ts') (ms₂ : List MainBranch) (vs₂ : List VideoBranch) (system₂ : SystemChain) (e-system : system₂ ≡ system) (firsts₂ : List ℕ) (figures₂ : List Float) (e-slots : slots firsts₂ figures₂ ≡ sl') (full₂ : Bool) where
+          module _ (ts₂ : List FluidFifo) (e-ts : ts₂ ≡ ts') (ss₂ : List PesScanner) (e-ss : ss₂ ≡ ss') (ms₂ : List MainBranch) (vs₂ : List VideoBranch) (system₂ : SystemChain) (e-system : system₂ ≡ system) (firsts₂ : List ℕ) (figures₂ : List Float) (e-slots : slots firsts₂ figures₂ ≡ sl') (full₂ : Bool) where
             pub main-again : model .«is_video» ≡ false → (b : MainBranch) → b ≡ getD ms i main-work.newBranch → (st : MainStepped)
                 → main-work.StepOf w (model .main) b (a .delivered) (m .end) (times' .arrival .t0) (1 + 6 * i) sl₁ st u sl'
                 → ms₂ ≡ set ms i (st .branch) → vs₂ ≡ vs → full₂ ≡ st .full → full₂ ≡ false
-                → LoopInv g (k + 1) (at + g .layout .«packet_size») full₂ u₂ ts₂ ms₂ vs₂ system₂ times' (slots firsts₂ figures₂)
+                → LoopInv g (k + 1) (at + g .layout .«packet_size») full₂ u₂ ts₂ ss₂ ms₂ vs₂ system₂ times' (slots firsts₂ figures₂)
             main-again kind b is-b st x em ev ef e =
-                record { ready = ready; loop = rw (e-u, e-ts, e-system, e-slots, ef, ev) (stream-again (main-turn kind b is-b st x ms₂ em) (sym ef ∙ e)) }
+                record { ready = ready; loop = rw (e-u, e-ts, e-ss, e-system, e-slots, ef, ev) (stream-again (main-turn kind b is-b st x ms₂ em) (sym ef ∙ e)) }
 
             pub video-again : model .«is_video» ≡ true → (v : VideoBranch) → v ≡ getD vs i video-work.newBranch → (st : VideoStepped)
                 → video-work.StepOf w (model .video) v (a .delivered) (m .end) (times' .arrival .t0) (1 + 6 * i) sl₁ st u sl'
                 → vs₂ ≡ set vs i (st .branch) → ms₂ ≡ ms → full₂ ≡ st .full → full₂ ≡ false
-                → LoopInv g (k + 1) (at + g .layout .«packet_size») full₂ u₂ ts₂ ms₂ vs₂ system₂ times' (slots firsts₂ figures₂)
+                → LoopInv g (k + 1) (at + g .layout .«packet_size») full₂ u₂ ts₂ ss₂ ms₂ vs₂ system₂ times' (slots firsts₂ figures₂)
             video-again kind v is-v st x ev em ef e =
-                record { ready = ready; loop = rw (e-u, e-ts, e-system, e-slots, ef, em) (stream-again (video-turn kind v is-v st x vs₂ ev) (sym ef ∙ e)) }
+                record { ready = ready; loop = rw (e-u, e-ts, e-ss, e-system, e-slots, ef, em) (stream-again (video-turn kind v is-v st x vs₂ ev) (sym ef ∙ e)) }
 
 -- ---- its end
 
-pub loop-ends : (g : Pass) (ready : Ready g) (k at : ℕ) (isFull : Bool) (w : List Float) (ts : List Transport) (ms : List MainBranch) (vs : List VideoBranch) (system : SystemChain) (times : Times) (sl : Slots)
-    → Looping g ready k at isFull w ts ms vs system times sl → g .count + streamCount g ≤ k → (r : RanState) → r .full ≡ isFull → r .transports ≡ ts → r .mains ≡ ms → r .videos ≡ vs → r .system ≡ system → r .times ≡ times → slots (r .firsts) (r .figures) ≡ sl
+pub loop-ends : (g : Pass) (ready : Ready g) (k at : ℕ) (isFull : Bool) (w : List Float) (ts : List FluidFifo) (ss : List PesScanner) (ms : List MainBranch) (vs : List VideoBranch) (system : SystemChain) (times : Times) (sl : Slots)
+    → Looping g ready k at isFull w ts ss ms vs system times sl → g .count + streamCount g ≤ k → (r : RanState) → r .full ≡ isFull → r .tbs ≡ ts → r .mains ≡ ms → r .videos ≡ vs → r .system ≡ system → r .times ≡ times → slots (r .firsts) (r .figures) ≡ sl
     → RanTo g r w
-loop-ends g ready k at isFull w ts ms vs system times sl inv h r ef et em ev es em2 esl =
+loop-ends g ready k at isFull w ts ss ms vs system times sl inv h r ef et em ev es em2 esl =
     let e : k ≡ g .count + streamCount g = (let a = inv .few in omega arith) in
     record {
       ready = ready;
@@ -364,6 +367,7 @@ loop-ends g ready k at isFull w ts ms vs system times sl inv h r ef et em ev es 
           record {
             state = inv .state;
             reached = subst (λ (n : ℕ). Reached g n (inv .state)) e (inv .reached);
+            scanners = ss;
             at = rw (← e, et, em, ev, es, em2, esl) (inv .now);
             outcome = going-done g k (inv .state) (streams-counted g ready) e (inv .going);
           };

@@ -20,14 +20,14 @@ use Rattle.profile.specs.Owner.{ownerBy}
 use Rattle.events.specs.Event.{when, tbOverflow, tbBusy, kindOf, figureOf, decodeOf}
 use Rattle.events.specs.Slots.{Slots, notedIf, notedAll}
 use Rattle.events.proofs.Noted.{notedAll-append, notedAll-when}
-use Rattle.transport.specs.declared.Transport.{Transport}
+use Rattle.scanner.specs.declared.Runs.{Runs}
 use Rattle.transport.specs.declared.Arrived.{Arrived}
-use Rattle.transport.specs.Arrive.{nothing}
-use Rattle.transport.specs.Transport.{arrivedOf}
+use Rattle.transport.specs.Arrive.{nothing, arriveIn}
+use Rattle.transport.specs.Transport.{stampAnswer}
 use Rattle.model.specs.Chain.{tbEvents}
 use Rattle.tstd.specs.declared.moment.Moment.{Moment}
 use Rattle.tstd.specs.declared.moment.Times.{Times}
-use Rattle.tstd.specs.Moments.{ownerIndex, packetMoment, endMoment, momentOf, nextTimes, FrontOf}
+use Rattle.tstd.specs.Moments.{ownerIndex, packetMoment, endMoment, momentOf, nextTimes, BufferOf}
 
 -- ---- the moment of step k
 
@@ -82,11 +82,11 @@ tb-noted tb k s x y a b =
     let y' : y ≡ notedAll k B x = b ∙ sym (notedAll-when k (lt (1f ⊕ 1e-6f) (tb .«longest_busy»)) (tbBusy (tb .«longest_busy»)) x) in
     y' ∙ (ap (notedAll k B) x' ∙ sym (notedAll-append k A B s))
 
-module _ {f : Transport} {w : List ℕ} {m : Moment} {a : PacketArrival} {k : ℕ} {s : Slots} where
-  pub front-ends : {d : Delivered} {s' : Slots} → m .end ≡ true → d ≡ nothing → s' ≡ notedAll k (tbEvents (f .tb)) s
-      → FrontOf f w m a k s (record { transport = f; delivered = d }) s'
-  front-ends e g h = record { ends = λ _. (rw g, h); arrives = λ x. absurd (true≢false (sym e ∙ x)) }
+module _ {tb : FluidFifo} {runs : Runs} {m : Moment} {a : PacketArrival} {k : ℕ} {s : Slots} where
+  pub buffer-ends : {d : Delivered} {s' : Slots} → m .end ≡ true → d ≡ nothing → s' ≡ notedAll k (tbEvents tb) s
+      → BufferOf tb runs m a k s (record { tb = tb; delivered = d }) s'
+  buffer-ends e g h = record { ends = λ _. (rw g, h); arrives = λ x. absurd (true≢false (sym e ∙ x)) }
 
-  pub front-arrives : {r : Arrived} → m .end ≡ false → r ≡ arrivedOf f w (m .«payload_start») (m .«payload_unit_start») (a .t0) (a .t1) (a .cursor .interval)
-      → FrontOf f w m a k s r s
-  front-arrives e g = record { ends = λ x. absurd (true≢false (sym x ∙ e)); arrives = λ _. (g, refl) }
+  pub buffer-arrives : {r : Arrived} → m .end ≡ false
+      → r ≡ arriveIn tb (m .«payload_start») runs (a .t0) (a .t1) (stampAnswer (a .cursor .interval) (runs .«decode_ts»)) → BufferOf tb runs m a k s r s
+  buffer-arrives e g = record { ends = λ x. absurd (true≢false (sym x ∙ e)); arrives = λ _. (g, refl) }

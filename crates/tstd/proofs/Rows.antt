@@ -23,11 +23,11 @@ use Rattle.profile.specs.declared.model.TStdBranch.{TStdBranch}
 use Rattle.profile.specs.declared.config.TStdConfig.{TStdConfig}
 use Rattle.profile.specs.declared.config.TStdStream.{TStdStream}
 use Rattle.profile.specs.Config.{streamsOf, unusedStream}
-use Rattle.transport.specs.declared.Transport.{Transport}
+use Rattle.fifo.specs.declared.FluidFifo.{FluidFifo}
 use Rattle.model.specs.Chain.{Chain, newChain, statsOf, whole}
 use Rattle.model.specs.Replay.{State, streamStats, systemStats}
 use Rattle.tstd.specs.declared.front.SystemChain.{SystemChain}
-use Rattle.tstd.specs.InWork.{modelBy, unusedTransport, ChainIs}
+use Rattle.tstd.specs.InWork.{modelBy, unusedTb, ChainIs}
 use Rattle.tstd.specs.Figures.{rowBy, streamRow, rowsFrom, systemRow, systemRows}
 use Rattle.tstd.proofs.ChainIs.{stats-main, stats-video}
 
@@ -60,16 +60,16 @@ getD-any [] i d d' h = absurd (omega arith)
 getD-any (x ∷ l) zero d d' h = refl
 getD-any (x ∷ l) (suc i) d d' h = getD-any l i d d' (omega arith)
 
-module _ (ts : List Transport) (bs : List MainBranch) (vs : List VideoBranch) where
+module _ (ts : List FluidFifo) (bs : List MainBranch) (vs : List VideoBranch) where
   -- the row of stream i
   abbrev pub rowAt : TStdStream → ℕ → TStdChainStats
-  rowAt s i = streamRow s (getD ts i unusedTransport) (getD bs i main-work.newBranch) (getD vs i video-work.newBranch)
+  rowAt s i = streamRow s (getD ts i unusedTb) (getD bs i main-work.newBranch) (getD vs i video-work.newBranch)
 
   -- as the code reads it, with what an array gives behind its end
-  pub row-read : (s : TStdStream) (i : ℕ) (t : Transport) (b : MainBranch) (v : VideoBranch) (x : TStdChainStats) → i < length ts → i < length bs → i < length vs
+  pub row-read : (s : TStdStream) (i : ℕ) (t : FluidFifo) (b : MainBranch) (v : VideoBranch) (x : TStdChainStats) → i < length ts → i < length bs → i < length vs
       → x ≡ streamRow s (getD ts i t) (getD bs i b) (getD vs i v) → x ≡ rowAt s i
   row-read s i t b v x ht hb hv e =
-      e ∙ rw (getD-any ts i t unusedTransport ht, getD-any bs i b main-work.newBranch hb, getD-any vs i v video-work.newBranch hv)
+      e ∙ rw (getD-any ts i t unusedTb ht, getD-any bs i b main-work.newBranch hb, getD-any vs i v video-work.newBranch hv)
 
   pub rows-length : (i : ℕ) (ss : List TStdStream) → length (rowsFrom i ss ts bs vs) ≡ length ss
   unfolding rowsFrom
@@ -132,11 +132,11 @@ module _ (c : TStdConfig) (s : SystemChain) (fs rows : List TStdChainStats) (n :
 
 -- ---- the chains of the definition
 
-row-by : (m : TStdBranch) (p base depth : ℕ) (t : Transport) (b : MainBranch) (v : VideoBranch) (r : TStdChainStats)
+row-by : (m : TStdBranch) (p base depth : ℕ) (t : FluidFifo) (b : MainBranch) (v : VideoBranch) (r : TStdChainStats)
     → (modelBy m p base depth .«is_video» ≡ false
     → r ≡ record {
       pid = p;
-      «peak_tb_bytes» = whole (t .tb .peak);
+      «peak_tb_bytes» = whole (t .peak);
       «peak_main_bytes» = whole (b .peak);
       «peak_eb_bytes» = 0;
       «access_units» = b .«access_units»;
@@ -145,7 +145,7 @@ row-by : (m : TStdBranch) (p base depth : ℕ) (t : Transport) (b : MainBranch) 
     → (modelBy m p base depth .«is_video» ≡ true
     → r ≡ record {
       pid = p;
-      «peak_tb_bytes» = whole (t .tb .peak);
+      «peak_tb_bytes» = whole (t .peak);
       «peak_main_bytes» = whole (v .leak .«mb_peak»);
       «peak_eb_bytes» = whole (v .leak .flow .«eb_peak»);
       «access_units» = v .«access_units»;
@@ -156,11 +156,11 @@ unfolding rowBy modelBy
 row-by (TStdBranch.Main size) p base depth t b v r f g = sym (f refl)
 row-by (TStdBranch.Video rbx mb eb) p base depth t b v r f g = sym (g refl)
 
-pub row-is : {w : List Float} {s : TStdStream} {base depth k : ℕ} {t : Transport} {b : MainBranch} {v : VideoBranch} {x : Chain}
+pub row-is : {w : List Float} {s : TStdStream} {base depth k : ℕ} {t : FluidFifo} {b : MainBranch} {v : VideoBranch} {x : Chain}
     → ChainIs w s base depth k t b v x → streamRow s t b v ≡ statsOf s x
 row-is {s} {base} {depth} {t} {b} {v} {x} c = row-by (s .model .branch) (s .pid) base depth t b v (statsOf s x) (stats-main c) (stats-video c)
 
-module _ (c : TStdConfig) (s : State) (ts : List Transport) (bs : List MainBranch) (vs : List VideoBranch) where
+module _ (c : TStdConfig) (s : State) (ts : List FluidFifo) (bs : List MainBranch) (vs : List VideoBranch) where
   rows-from : (i : ℕ) (ss : List TStdStream)
       → ((j : ℕ) → j < length ss → rowAt ts bs vs (getD ss j unusedStream) (i + j) ≡ statsOf (getD ss j unusedStream) (getD (s .chains) (i + j) (newChain unusedStream)))
       → rowsFrom i ss ts bs vs ≡ streamStats i ss c s
@@ -174,7 +174,7 @@ module _ (c : TStdConfig) (s : State) (ts : List Transport) (bs : List MainBranc
   -- the rows are the figures of the definition's state s
   pub rows-are : (w : List Float) (depth k : ℕ) (system : SystemChain)
       → ((i : ℕ) → i < c .«stream_count»
-      → ChainIs w (getD (c .streams) i unusedStream) (8 * depth * i) depth k (getD ts i unusedTransport) (getD bs i main-work.newBranch) (getD vs i video-work.newBranch) (getD (s .chains) i (newChain unusedStream)))
+      → ChainIs w (getD (c .streams) i unusedStream) (8 * depth * i) depth k (getD ts i unusedTb) (getD bs i main-work.newBranch) (getD vs i video-work.newBranch) (getD (s .chains) i (newChain unusedStream)))
       → system .tb ≡ s .sysTb → system .branch ≡ s .sys
       → rowsFrom 0 (streamsOf c) ts bs vs ++ systemRows c system ≡ streamStats 0 (streamsOf c) c s ++ systemStats c s
   unfolding systemRows systemRow systemStats

@@ -2,40 +2,36 @@
 use Prim.Native.Nat.{ℕ, suc, _+_, _-_, _*_, _/_, _^_, _≤_, _<_}
 use native.Mathlib.Omega.{arith}
 use native.Mathlib.Nat.{mul-le-mul-left, div-mul-le-self}
-use mathlib.Core.Path.{_≡_, refl, sym, ap, _∙_, subst}
+use mathlib.Core.Path.{_≡_, refl, ap, _∙_}
 use mathlib.Core.Bool.{Bool, true, false, cond}
-use mathlib.Core.List.{List, [], _∷_}
+use mathlib.Core.List.{List, []}
 use lib.ListN.{length, getD, take, drop, length-take}
 use lib.Seq.{getD-take}
-use lib.Dec.{ltb, leb}
+use lib.Dec.{leb}
 use lib.Ieee.{Float}
 use borrow.Author.Tests.{leb-true, leb-false, lt-ltb, le-ltb}
 use Rattle.packet.specs.declared.TsPacket.{TsPacket}
 use Rattle.packet.specs.declared.Parse.{Parse}
+use Rattle.packet.specs.declared.TsPacketLayout.{TsPacketLayout}
 use Rattle.packet.specs.Packet.{parseOf}
 use Rattle.packet.specs.Layout.{windowOf}
 use Rattle.header.specs.declared.PacketHeader.{PacketHeader}
 use Rattle.header.specs.Header.{headerOf}
 use Rattle.header.proofs.Headers.{Fails, is-truncated, is-bad-sync}
-use Rattle.scanner.specs.declared.Runs.{Runs}
-use Rattle.recording.specs.Read.{Fact, unparsed, parsed, packetAt, opensAt, factAt, factBy, factsFrom}
+use Rattle.recording.specs.Read.{unparsed, parsed, packetAt, opensAt, factAt, factBy}
 use Rattle.recording.proofs.Facts.{opens-by, fact-by}
 use Rattle.arrival.specs.declared.PacketArrival.{PacketArrival}
-use Rattle.arrival.specs.declared.RateInterval.{RateInterval}
 use Rattle.arrival.specs.Times.{arrivalAt, covering}
 use Rattle.arrival.specs.Work.{nextArrival}
 use Rattle.arrival.proofs.Covering.{AtEnd, end-interval}
 use Rattle.branch.specs.Queue.{SameOutside}
-use Rattle.profile.specs.declared.config.TStdConfig.{TStdConfig}
-use Rattle.profile.specs.declared.owner.Owner.{Owner}
 use Rattle.profile.specs.Config.{streamsOf, unusedStream}
-use Rattle.profile.specs.Owner.{ownerOf, ownerBy, pidsOf}
-use Rattle.profile.proofs.Ownership.{OwnerSlot, owner-slot, pids-owner}
+use Rattle.profile.specs.Owner.{ownerOf, pidsOf}
+use Rattle.profile.proofs.Ownership.{pids-owner}
 use Rattle.model.specs.Chain.{endStep}
-use Rattle.model.specs.Replay.{State, Ran, running, streamAt, chainAt, streamsRead, stepped, factStep}
+use Rattle.model.specs.Replay.{State, running, streamAt, chainAt, streamsRead, stepped, factStep}
 use Rattle.tstd.specs.declared.moment.Moment.{Moment}
-use Rattle.tstd.specs.declared.moment.Times.{Times}
-use Rattle.tstd.specs.Moments.{ownerIndex, packetMoment, endMoment, momentOf, nextTimes}
+use Rattle.tstd.specs.Moments.{ownerIndex, packetMoment, endMoment, momentOf}
 use Rattle.tstd.specs.Run.{Pass, streamCount, depthOf, clockFrom, clockOf, Ready, stepOf}
 use Rattle.tstd.proofs.ClockKept.{packet-arrives}
 
@@ -109,6 +105,17 @@ module _ (g : Pass) (ready : Ready g) where
         t1 = rw f at (a .t1-is);
         interval = rw f at (end-interval (g .work) (clockFrom g) (g .places) (g .last) (ready .room) a);
       }
+
+-- a packet's window has 188 bytes or none
+window-few : (b : Bool) (xs : List ℕ) → length (cond b (take 188 xs) []) ≤ 188
+window-few true xs = rw (length-take 188 xs) (omega arith)
+window-few false xs = omega arith
+
+pub packet-few : (y : TsPacketLayout) (l : List ℕ) (k : ℕ) → length (packetAt y l k) ≤ 188
+unfolding windowOf
+packet-few y l k =
+    let from = k * y .«packet_size» + y .«sync_offset» in
+    window-few (leb (from + 188) (length l)) (drop from l)
 
 -- ---- the definition's step
 

@@ -8,10 +8,10 @@ use lib.ListN.{length, getD, set, length-set}
 use lib.Seq.{getD-set-same, getD-set-other}
 use Rattle.profile.specs.declared.config.TStdStream.{TStdStream}
 use Rattle.profile.specs.Config.{unusedStream}
-use Rattle.transport.specs.declared.Transport.{Transport}
-use Rattle.transport.specs.Transport.{newTransport}
+use Rattle.fifo.specs.declared.FluidFifo.{FluidFifo}
+use Rattle.fifo.specs.FluidFifo.{new}
 use Rattle.tstd.specs.declared.stream.StreamModel.{StreamModel}
-use Rattle.tstd.specs.InWork.{streamModel, unusedModel, unusedTransport, ModelsOf, TransportsOf}
+use Rattle.tstd.specs.InWork.{streamModel, unusedModel, unusedTb, ModelsOf, TbsOf}
 
 -- an array whose first i entries are those of f, with entry i set to that of f
 pub filled-next : {A : Type 0} (d : A) (f : ℕ → A) (xs : List A) (i : ℕ) (x : A) → i < length xs → x ≡ f i → ((j : ℕ) → j < i → getD xs j d ≡ f j)
@@ -32,23 +32,23 @@ module _ (streams : List TStdStream) (depth : ℕ) where
       }
 
 module _ (streams : List TStdStream) where
-  pub transports-none : (ts : List Transport) → length ts ≡ 8 → TransportsOf streams 0 ts
-  transports-none ts e = record { size = e; at = λ i h. absurd (omega arith) }
+  pub tbs-none : (ts : List FluidFifo) → length ts ≡ 8 → TbsOf streams 0 ts
+  tbs-none ts e = record { size = e; at = λ i h. absurd (omega arith) }
 
-  pub transports-next : (i : ℕ) (ts : List Transport) (x : Transport) → TransportsOf streams i ts → i < 8
-      → x ≡ newTransport (getD streams i unusedStream .model .«rx_bps») → TransportsOf streams (i + 1) (set ts i x)
-  transports-next i ts x m h e =
+  pub tbs-next : (i : ℕ) (ts : List FluidFifo) (x : FluidFifo) → TbsOf streams i ts → i < 8
+      → x ≡ new (getD streams i unusedStream .model .«rx_bps») → TbsOf streams (i + 1) (set ts i x)
+  tbs-next i ts x m h e =
       record {
         size = length-set ts i x ∙ m .size;
-        at = filled-next unusedTransport (λ j. newTransport (getD streams j unusedStream .model .«rx_bps»)) ts i x (omega (arith, m .size)) e (m .at);
+        at = filled-next unusedTb (λ j. new (getD streams j unusedStream .model .«rx_bps»)) ts i x (omega (arith, m .size)) e (m .at);
       }
 
 -- up to the eighth is all
 pub models-all : (streams : List TStdStream) (depth i : ℕ) (ms : List StreamModel) → i ≡ 8 → ModelsOf streams depth i ms → ModelsOf streams depth 8 ms
 models-all streams depth i ms e m = rw e at m
 
-pub transports-all : (streams : List TStdStream) (i : ℕ) (ts : List Transport) → i ≡ 8 → TransportsOf streams i ts → TransportsOf streams 8 ts
-transports-all streams i ts e m = rw e at m
+pub tbs-all : (streams : List TStdStream) (i : ℕ) (ts : List FluidFifo) → i ≡ 8 → TbsOf streams i ts → TbsOf streams 8 ts
+tbs-all streams i ts e m = rw e at m
 
 -- ---- the loops
 
@@ -58,7 +58,7 @@ pub record ModelsTurn (streams : List TStdStream) (depth i : ℕ) (ms : List Str
   pub deep : depth ≤ 8192
   pub models : ModelsOf streams depth i ms
 
-pub record TransportsTurn (streams : List TStdStream) (i : ℕ) (ts : List Transport) : Type 0 where
+pub record TbsTurn (streams : List TStdStream) (i : ℕ) (ts : List FluidFifo) : Type 0 where
   pub within : i ≤ 8
   pub slots : length streams ≡ 8
-  pub transports : TransportsOf streams i ts
+  pub tbs : TbsOf streams i ts

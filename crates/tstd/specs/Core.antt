@@ -96,4 +96,4 @@ reportIn c r samples =
 
 unfoldable pub acceptedOf : TStdConfig → RanState → ℕ → Answer
 acceptedOf c r samples =
-    acceptedAnswer (reportIn c r samples) (rowsFrom 0 (streamsOf c) (r .transports) (r .mains) (r .videos) ++ systemRows c (r .system))
+    acceptedAnswer (reportIn c r samples) (rowsFrom 0 (streamsOf c) (r .tbs) (r .mains) (r .videos) ++ systemRows c (r .system))

@@ -14,16 +14,16 @@ use Rattle.profile.specs.declared.config.TStdConfig.{TStdConfig}
 use Rattle.profile.specs.declared.config.TStdStream.{TStdStream}
 use Rattle.report.specs.declared.TStdChainStats.{TStdChainStats}
 use Rattle.summary.specs.Violation.{systemPid}
-use Rattle.transport.specs.declared.Transport.{Transport}
+use Rattle.fifo.specs.declared.FluidFifo.{FluidFifo}
 use Rattle.model.specs.Chain.{whole}
 use Rattle.tstd.specs.declared.front.SystemChain.{SystemChain}
-use Rattle.tstd.specs.InWork.{unusedTransport}
+use Rattle.tstd.specs.InWork.{unusedTb}
 
-unfoldable pub rowBy : TStdBranch → ℕ → Transport → MainBranch → VideoBranch → TStdChainStats
+unfoldable pub rowBy : TStdBranch → ℕ → FluidFifo → MainBranch → VideoBranch → TStdChainStats
 rowBy (TStdBranch.Main size) p t b v =
     record {
       pid = p;
-      «peak_tb_bytes» = whole (t .tb .peak);
+      «peak_tb_bytes» = whole (t .peak);
       «peak_main_bytes» = whole (b .peak);
       «peak_eb_bytes» = 0;
       «access_units» = b .«access_units»;
@@ -32,21 +32,21 @@ rowBy (TStdBranch.Main size) p t b v =
 rowBy (TStdBranch.Video rbx mb eb) p t b v =
     record {
       pid = p;
-      «peak_tb_bytes» = whole (t .tb .peak);
+      «peak_tb_bytes» = whole (t .peak);
       «peak_main_bytes» = whole (v .leak .«mb_peak»);
       «peak_eb_bytes» = whole (v .leak .flow .«eb_peak»);
       «access_units» = v .«access_units»;
       «max_delay_seconds» = v .«max_delay_seconds»;
     }
 
-abbrev pub streamRow : TStdStream → Transport → MainBranch → VideoBranch → TStdChainStats
+abbrev pub streamRow : TStdStream → FluidFifo → MainBranch → VideoBranch → TStdChainStats
 streamRow s t b v = rowBy (s .model .branch) (s .pid) t b v
 
 -- the rows of the streams from stream i on
-unfoldable pub rowsFrom : ℕ → List TStdStream → List Transport → List MainBranch → List VideoBranch → List TStdChainStats
+unfoldable pub rowsFrom : ℕ → List TStdStream → List FluidFifo → List MainBranch → List VideoBranch → List TStdChainStats
 rowsFrom i [] ts bs vs = []
 rowsFrom i (s ∷ ss) ts bs vs =
-    streamRow s (getD ts i unusedTransport) (getD bs i main-work.newBranch) (getD vs i video-work.newBranch) ∷ rowsFrom (suc i) ss ts bs vs
+    streamRow s (getD ts i unusedTb) (getD bs i main-work.newBranch) (getD vs i video-work.newBranch) ∷ rowsFrom (suc i) ss ts bs vs
 
 unfoldable pub systemRow : TStdConfig → SystemChain → TStdChainStats
 systemRow c s =

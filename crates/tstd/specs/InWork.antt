@@ -1,7 +1,7 @@
 -- A chain of pass 2 as the code holds it: its model, its branch with queues in the work, and the chain of the definition that these are.
 use Prim.Native.Nat.{ℕ, _+_, _*_, _≤_, _<_}
 use mathlib.Core.Path.{_≡_}
-use mathlib.Core.Bool.{Bool, true, false, cond}
+use mathlib.Core.Bool.{true, false, cond}
 use mathlib.Core.List.{List}
 use lib.ListN.{length, getD}
 use lib.Ieee.{Float}
@@ -15,8 +15,8 @@ use Rattle.branch.proofs.VideoCounts as video-counts
 use Rattle.profile.specs.declared.model.TStdBranch.{TStdBranch}
 use Rattle.profile.specs.declared.config.TStdStream.{TStdStream}
 use Rattle.transport.specs.Arrive.{float}
-use Rattle.transport.specs.declared.Transport.{Transport}
-use Rattle.transport.specs.Transport.{newTransport}
+use Rattle.fifo.specs.declared.FluidFifo.{FluidFifo}
+use Rattle.fifo.specs.FluidFifo.{new}
 use Rattle.profile.specs.Config.{unusedStream}
 use Rattle.model.specs.Chain.{Branch, main, video, Chain}
 use Rattle.tstd.specs.declared.stream.StreamModel.{StreamModel}
@@ -50,12 +50,12 @@ pub record ModelsOf (streams : List TStdStream) (depth n : ℕ) (ms : List Strea
   pub size : length ms ≡ 8
   pub at : (i : ℕ) → i < n → getD ms i unusedModel ≡ streamModel (getD streams i unusedStream) (8 * depth * i) depth
 
-abbrev pub unusedTransport : Transport
-unusedTransport = newTransport 0
+abbrev pub unusedTb : FluidFifo
+unusedTb = new 0
 
-pub record TransportsOf (streams : List TStdStream) (n : ℕ) (ts : List Transport) : Type 0 where
+pub record TbsOf (streams : List TStdStream) (n : ℕ) (ts : List FluidFifo) : Type 0 where
   pub size : length ts ≡ 8
-  pub at : (i : ℕ) → i < n → getD ts i unusedTransport ≡ newTransport (getD streams i unusedStream .model .«rx_bps»)
+  pub at : (i : ℕ) → i < n → getD ts i unusedTb ≡ new (getD streams i unusedStream .model .«rx_bps»)
 
 -- ---- a chain in the work w
 
@@ -67,8 +67,8 @@ unitsOf (main b) = main-counts.unitsIn b
 unitsOf (video v) = video-counts.unitsIn (v .branch)
 
 -- the chain of stream s is x: its rings lie in the work, and it has met at most k units
-pub record ChainIs (w : List Float) (s : TStdStream) (base depth k : ℕ) (t : Transport) (b : MainBranch) (v : VideoBranch) (x : Chain) : Type 0 where
-  pub tb : t .tb ≡ x .tb
+pub record ChainIs (w : List Float) (s : TStdStream) (base depth k : ℕ) (t : FluidFifo) (b : MainBranch) (v : VideoBranch) (x : Chain) : Type 0 where
+  pub tb : t ≡ x .tb
   pub branch : branchIn w (streamModel s base depth) b v ≡ x .branch
   pub main-lies : streamModel s base depth .«is_video» ≡ false → BranchLies w (streamModel s base depth .main) b
   pub video-lies : streamModel s base depth .«is_video» ≡ true → VideoLies w (layoutOf (streamModel s base depth .video)) v

@@ -1,14 +1,15 @@
 -- Pass 2 as the loop of the code holds it: what does not change, and what the arrays, the work and the slots are behind k steps.
 use Prim.Native.Nat.{ℕ, suc, _+_, _-_, _*_, _/_, _^_, _≤_, _<_, min}
 use mathlib.Core.Path.{_≡_}
-use mathlib.Core.Bool.{Bool, true, false, cond}
+use mathlib.Core.Bool.{true, false, cond}
 use mathlib.Core.List.{List}
 use lib.ListN.{length, getD}
 use lib.Dec.{ltb}
 use lib.Ieee.{Float}
 use Rattle.error.specs.declared.Refusal.{Refusal}
 use Rattle.packet.specs.declared.TsPacketLayout.{TsPacketLayout}
-use Rattle.scanner.specs.State.{scannerOf}
+use Rattle.scanner.specs.declared.PesScanner.{PesScanner}
+use Rattle.scanner.specs.State.{idle, scannerOf}
 use Rattle.recording.specs.Read.{opensAt, factAt}
 use Rattle.arrival.specs.declared.RateInterval.{RateInterval}
 use Rattle.arrival.specs.Work.{holds, intervalsIn}
@@ -25,13 +26,13 @@ use Rattle.profile.specs.declared.owner.Owner.{Owner}
 use Rattle.profile.specs.Config.{streamsOf, unusedStream}
 use Rattle.profile.specs.Owner.{ownerOf}
 use Rattle.summary.specs.Summary.{emptySlots, notedFound}
-use Rattle.transport.specs.declared.Transport.{Transport}
-use Rattle.model.specs.Chain.{newChain, endStep}
+use Rattle.fifo.specs.declared.FluidFifo.{FluidFifo}
+use Rattle.model.specs.Chain.{endStep}
 use Rattle.model.specs.Replay.{State, Ran, running, started, Outcome, refusedWith, streamsRead, streamAt, chainAt, stepped, factStep}
 use Rattle.tstd.specs.declared.moment.Times.{Times}
 use Rattle.tstd.specs.declared.front.SystemChain.{SystemChain}
 use Rattle.tstd.specs.declared.run.Ran.{Ran as RanState}
-use Rattle.tstd.specs.InWork.{ChainIs, unusedTransport}
+use Rattle.tstd.specs.InWork.{ChainIs, unusedTb}
 use Rattle.tstd.specs.Rest.{finished, fromPacket, fromEnd}
 
 -- the profile, the recording with its layout and count of packets, and the work with the clock as pass 1 left it
@@ -93,23 +94,24 @@ pub data Reached (g : Pass) : ℕ → State → Type 0 where
   one-more : {k : ℕ} {s s' : State} → k < g .count + streamCount g → Reached g k s → stepOf g k s ≡ running s' → Reached g (suc k) s'
 
 -- the chain of stream i
-abbrev pub ChainAt : Pass → ℕ → List Float → List Transport → List MainBranch → List VideoBranch → State → ℕ → Type 0
+abbrev pub ChainAt : Pass → ℕ → List Float → List FluidFifo → List MainBranch → List VideoBranch → State → ℕ → Type 0
 ChainAt g k w ts ms vs s i =
-    ChainIs w (streamAt (g .config) i) (8 * depthOf g * i) (depthOf g) k (getD ts i unusedTransport) (getD ms i main-work.newBranch) (getD vs i video-work.newBranch)
+    ChainIs w (streamAt (g .config) i) (8 * depthOf g * i) (depthOf g) k (getD ts i unusedTb) (getD ms i main-work.newBranch) (getD vs i video-work.newBranch)
     (chainAt (g .config) s i)
 
 -- behind k steps the state is s
-pub record At (g : Pass) (ready : Ready g) (k : ℕ) (w : List Float) (ts : List Transport) (ms : List MainBranch) (vs : List VideoBranch) (system : SystemChain) (times : Times) (sl : Slots) (s : State)
+pub record At (g : Pass) (ready : Ready g) (k : ℕ) (w : List Float) (ts : List FluidFifo) (ss : List PesScanner) (ms : List MainBranch) (vs : List VideoBranch) (system : SystemChain) (times : Times) (sl : Slots) (s : State)
     : Type 0 where
   pub outside : SameOutside 0 (clockFrom g) (g .work) w
   pub ts-size : length ts ≡ 8
+  pub ss-size : length ss ≡ 8
   pub ms-size : length ms ≡ 8
   pub vs-size : length vs ≡ 8
   pub chains-size : length (s .chains) ≡ streamCount g
   pub chains : (i : ℕ) → i < streamCount g → ChainAt g k w ts ms vs s i
   -- a stream that takes the packets of its PID
   pub scanners : k ≤ g .count → (i : ℕ) → i < streamCount g → ownerOf (g .config) (streamAt (g .config) i .pid) ≡ Owner.Stream i
-      → getD ts i unusedTransport .scanner ≡ scannerOf (opensAt (g .layout) (g .recording) k (streamAt (g .config) i .pid))
+      → getD ss i idle ≡ scannerOf (opensAt (g .layout) (g .recording) k (streamAt (g .config) i .pid))
   pub system-tb : system .tb ≡ s .sysTb
   pub system-branch : system .branch ≡ s .sys
   pub first : times .«first_time» ≡ s .firstTime
@@ -127,7 +129,9 @@ passOf c l y count w places intervals =
 pub record Finished (g : Pass) (ready : Ready g) (r : RanState) (w : List Float) : Type 0 where
   pub state : State
   pub reached : Reached g (g .count + streamCount g) state
-  pub at : At g ready (g .count + streamCount g) w (r .transports) (r .mains) (r .videos) (r .system) (r .times) (slots (r .firsts) (r .figures)) state
+  -- the scanners, which the answer does not need
+  pub scanners : List PesScanner
+  pub at : At g ready (g .count + streamCount g) w (r .tbs) scanners (r .mains) (r .videos) (r .system) (r .times) (slots (r .firsts) (r .figures)) state
   pub outcome : (samples : ℕ) → whole g samples ≡ finished (g .config) (clockOf g) samples (g .layout) (g .recording) (g .count) state
 
 pub record RanTo (g : Pass) (r : RanState) (w : List Float) : Type 0 where

@@ -3,11 +3,11 @@ use crate::front::SystemChain;
 use answer::Figures;
 use branch::main_branch::MainBranch;
 use branch::video_branch::VideoBranch;
+use fifo::FluidFifo;
 use profile::config::TStdConfig;
 use profile::config::TStdStream;
 use profile::model::TStdBranch;
 use report::TStdChainStats;
-use transport::Transport;
 ghost use mathlib.Core.Path.{_≡_};
 ghost use mathlib.Core.List.{_++_};
 ghost use Prim.Native.Nat.{_≤_, _<_};
@@ -16,10 +16,9 @@ ghost use Rattle.profile.specs.Config.{streamsOf};
 ghost use Rattle.tstd.specs.Figures.{streamRow, systemRow, rowsFrom, systemRows};
 
 // The peaks are whole bytes, toward zero; a branch without an elementary stream buffer has none there.
-fn stream_row(stream: TStdStream, f: Transport, b: MainBranch, v: VideoBranch) -> TStdChainStats
-    ensures { λ r. ⌜ r ≡ streamRow stream f b v ⌝ }
+fn stream_row(stream: TStdStream, tb: FluidFifo, b: MainBranch, v: VideoBranch) -> TStdChainStats
+    ensures { λ r. ⌜ r ≡ streamRow stream tb b v ⌝ }
 {
-    let tb = f.tb;
     let leak = v.leak;
     let flow = leak.flow;
     let model = stream.model;
@@ -66,13 +65,13 @@ fn system_row(config: TStdConfig, system: SystemChain) -> TStdChainStats
 
 pub(crate) fn figures(
     config: TStdConfig,
-    transports: [Transport; 8],
+    tbs: [FluidFifo; 8],
     mains: [MainBranch; 8],
     videos: [VideoBranch; 8],
     system: SystemChain,
 ) -> Figures
     requires { ⌜ config .«stream_count» ≤ 8 ⌝ }
-    ensures { λ r. ⌜ r ≡ figuresOf (rowsFrom 0 (streamsOf config) transports mains videos ++ systemRows config system) ⌝ }
+    ensures { λ r. ⌜ r ≡ figuresOf (rowsFrom 0 (streamsOf config) tbs mains videos ++ systemRows config system) ⌝ }
 {
     let streams = config.streams;
     let n = config.stream_count;
@@ -81,7 +80,7 @@ pub(crate) fn figures(
     let mut i = 0;
     while i < n {
         let s = streams[i];
-        let f = transports[i];
+        let f = tbs[i];
         let b = mains[i];
         let v = videos[i];
         let row = stream_row(s, f, b, v);

@@ -5,16 +5,20 @@ use branch::Run;
 use branch::sys_branch::SysBranch;
 use branch::sys_branch::rsys;
 use fifo::FluidFifo;
+use scanner::Fed;
+use scanner::PesScanner;
+use scanner::Runs;
 use transport::Arrived;
-use transport::Transport;
 ghost use mathlib.Core.Path.{_≡_};
-ghost use mathlib.Core.Bool.{cond};
-ghost use Prim.Native.Nat.{_<_};
+ghost use Prim.Native.Nat.{_-_, _<_};
+ghost use lib.ListN.{length};
+ghost use Rattle.packet.specs.Packet.{payloadOf};
+ghost use Rattle.scanner.specs.State.{openOf, fedOf};
+ghost use Rattle.scanner.specs.Joined.{onlyBody};
 ghost use Rattle.events.specs.Slots.{slots, notedAll};
 ghost use Rattle.branch.specs.SysBranch.{rsysOf, sysEvents};
-ghost use Rattle.transport.specs.Transport.{arrivedOf};
 ghost use Rattle.model.specs.Chain.{tbEvents};
-ghost use Rattle.tstd.specs.Moments.{newSystem, systemRun, systemPushed, FrontOf};
+ghost use Rattle.tstd.specs.Moments.{newSystem, systemRun, systemPushed, scansIn, BufferOf};
 
 // The transport buffer's rules, looked at when the packets are through.
 pub(crate) fn note_tb(tb: FluidFifo, firsts: &mut [u64; 64], figures: &mut [f64; 128], k: usize)
@@ -39,10 +43,35 @@ pub(crate) fn note_tb(tb: FluidFifo, firsts: &mut [u64; 64], figures: &mut [f64;
     );
 }
 
-// A packet of the stream, which arrives at a; window has its bytes. At the stream's end its transport buffer is looked at, and nothing arrives.
+// Whether the scanner is to be fed: the packet has payload, and a header is in it or may be.
+pub(crate) fn scans(s: PesScanner, m: Moment) -> bool
+    ensures { λ r. ⌜ r ≡ scansIn s m ⌝ }
+{
+    let has_payload = !m.end & (m.payload_start < 188);
+    has_payload & (m.payload_unit_start | !s.past_header())
+}
+
+// The runs of a payload that is content alone: one that the scanner is not fed.
+pub(crate) fn content(window: &[u8], m: Moment) -> Runs
+    ensures { λ r. ⌜ r ≡ onlyBody (length (now (window .entry)) - m .«payload_start») ⌝ }
+{
+    if m.payload_start < window.len() {
+        return scanner::only(window.len() - m.payload_start);
+    }
+    scanner::only(0)
+}
+
+pub(crate) fn feed(s: PesScanner, window: &[u8], m: Moment) -> Fed
+    ensures { λ r. ⌜ r ≡ fedOf (openOf s) (m .«payload_unit_start») (payloadOf (now (window .entry)) (m .«payload_start»)) ⌝ }
+{
+    let payload = packet::payload(window, m.payload_start);
+    s.feed(payload, m.payload_unit_start)
+}
+
+// A packet of the stream, which arrives at a, with the runs of its payload. At the stream's end its transport buffer is looked at, and nothing arrives.
 pub(crate) fn front(
-    f: Transport,
-    window: &[u8],
+    tb: FluidFifo,
+    runs: Runs,
     m: Moment,
     a: PacketArrival,
     firsts: &mut [u64; 64],
@@ -50,25 +79,17 @@ pub(crate) fn front(
     k: usize,
 ) -> Arrived
     requires { ⌜ k < 64 ⌝ }
-    ensures { λ r. ⌜ FrontOf f (now (window .entry)) m a k (slots (now (firsts .entry)) (now (figures .entry))) r (slots (now (firsts .exit)) (now (figures .exit))) ⌝ }
+    ensures { λ r. ⌜ BufferOf tb runs m a k (slots (now (firsts .entry)) (now (figures .entry))) r (slots (now (firsts .exit)) (now (figures .exit))) ⌝ }
 {
     if m.end {
-        let tb = f.tb;
         note_tb(tb, firsts, figures, k);
         return Arrived {
-            transport: f,
+            tb,
             delivered: transport::nothing_delivered(),
         };
     }
     let cursor = a.cursor;
-    f.arrive(
-        window,
-        m.payload_start,
-        m.payload_unit_start,
-        a.t0,
-        a.t1,
-        cursor.interval,
-    )
+    transport::arrive(tb, runs, m.payload_start, a.t0, a.t1, cursor.interval)
 }
 
 pub struct SystemChain {

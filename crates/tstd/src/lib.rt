@@ -51,10 +51,10 @@ fn accepted(config: TStdConfig, ran: Ran, samples: usize) -> Answer
     let times = ran.times;
     report.pcr_samples = samples as u64;
     report.modelled_seconds = modelled_seconds(times.first_time, times.last_time);
-    let transports = ran.transports;
+    let tbs = ran.tbs;
     let mains = ran.mains;
     let videos = ran.videos;
-    let rows = figures::figures(config, transports, mains, videos, system);
+    let rows = figures::figures(config, tbs, mains, videos, system);
     Answer {
         code: Code {
             number: 0,

@@ -6,10 +6,10 @@ use crate::moment::Times;
 use crate::stream;
 use branch::main_branch::MainBranch;
 use branch::video_branch::VideoBranch;
+use fifo::FluidFifo;
 use packet::TsPacketLayout;
 use profile::config::TStdConfig;
-use transport::Transport;
-ghost use mathlib.Core.Path.{_≡_};
+use scanner::PesScanner;
 ghost use Prim.Native.Nat.{_<_};
 ghost use Rattle.tstd.specs.Run.{Ready, passOf, RanTo};
 
@@ -18,7 +18,7 @@ pub struct Ran {
     pub full: bool,
     pub step: usize,
     pub owner: usize,
-    pub transports: [Transport; 8],
+    pub tbs: [FluidFifo; 8],
     pub mains: [MainBranch; 8],
     pub videos: [VideoBranch; 8],
     pub system: SystemChain,
@@ -28,6 +28,7 @@ pub struct Ran {
 }
 
 // One function, since the arrays of chains must stay in the one that has the loop: handed to a step they would be copied whole for each packet.
+// For the same reason a scanner is read whole only where it is fed, and a model where its kind is known.
 pub(crate) fn run(
     config: TStdConfig,
     bytes: &[u8],
@@ -43,7 +44,9 @@ pub(crate) fn run(
     let from = 8 * config.queue_depth * config.stream_count;
     let pids = config.pids();
     let models = stream::models(config);
-    let mut transports = stream::transports(config);
+    let mut tbs = stream::tbs(config);
+    let s0 = PesScanner::new();
+    let mut scanners = [s0; 8];
     let m0 = MainBranch::new();
     let v0 = VideoBranch::new();
     let mut mains = [m0; 8];
@@ -63,14 +66,24 @@ pub(crate) fn run(
         let a = times.arrival;
         let i = m.owner;
         if i < 8 {
-            let model = models[i];
-            let f = transports[i];
-            let d = front::front(f, window, m, a, &mut firsts, &mut figures, 1 + 6 * i);
-            let g = d.transport;
-            transports[i] = g;
+            let known = scanners[i];
+            let mut runs = front::content(window, m);
+            if front::scans(known, m) {
+                let before = scanners[i];
+                let fed = front::feed(before, window, m);
+                let behind = fed.scanner;
+                scanners[i] = behind;
+                runs = fed.runs;
+            }
+            let tb = tbs[i];
+            let d = front::front(tb, runs, m, a, &mut firsts, &mut figures, 1 + 6 * i);
+            let g = d.tb;
+            tbs[i] = g;
             let delivered = d.delivered;
-            if model.is_video {
+            let kind = models[i];
+            if kind.is_video {
                 let b = videos[i];
+                let model = models[i];
                 let p = model.video;
                 let s = b.step(
                     p,
@@ -87,6 +100,7 @@ pub(crate) fn run(
                 full = s.full;
             } else {
                 let b = mains[i];
+                let model = models[i];
                 let p = model.main;
                 let s = b.step(
                     p,
@@ -116,7 +130,7 @@ pub(crate) fn run(
         full,
         step: k,
         owner,
-        transports,
+        tbs,
         mains,
         videos,
         system,

@@ -1,13 +1,13 @@
 // What does not change of a stream: its PID, the kind of its branch, and where its part of the work begins.
 use branch::main_branch::MainModel;
 use branch::video_branch::VideoModel;
+use fifo::FluidFifo;
 use profile::config::TStdConfig;
 use profile::config::TStdStream;
 use profile::model::TStdBranch;
-use transport::Transport;
 ghost use mathlib.Core.Path.{_≡_};
 ghost use Prim.Native.Nat.{_≤_};
-ghost use Rattle.tstd.specs.InWork.{streamModel, ModelsOf, TransportsOf};
+ghost use Rattle.tstd.specs.InWork.{streamModel, ModelsOf, TbsOf};
 
 // The model of the other kind is not used.
 pub struct StreamModel {
@@ -78,19 +78,20 @@ pub(crate) fn models(config: TStdConfig) -> [StreamModel; 8]
     models
 }
 
-pub(crate) fn transports(config: TStdConfig) -> [Transport; 8]
-    ensures { λ r. ⌜ TransportsOf (config .streams) 8 r ⌝ }
+// The transport buffers before any packet.
+pub(crate) fn tbs(config: TStdConfig) -> [FluidFifo; 8]
+    ensures { λ r. ⌜ TbsOf (config .streams) 8 r ⌝ }
 {
     let streams = config.streams;
-    let t0 = Transport::new(0);
-    let mut transports = [t0; 8];
+    let t0 = FluidFifo::new(0);
+    let mut tbs = [t0; 8];
     let mut i = 0;
     while i < 8 {
         let s = streams[i];
         let model = s.model;
-        let t = Transport::new(model.rx_bps);
-        transports[i] = t;
+        let t = FluidFifo::new(model.rx_bps);
+        tbs[i] = t;
         i += 1;
     }
-    transports
+    tbs
 }

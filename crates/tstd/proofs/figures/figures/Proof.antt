@@ -11,10 +11,10 @@ use Rattle.tstd.proofs.figures.figures.Statement.{statement}
 use Rattle.tstd.proofs.figures.figures.Tie as tie
 
 abbrev Inv-loop : tie.InvT-loop
-Inv-loop config system transports mains videos streams n rows₀ i₀ rows i = Filled transports mains videos streams n i rows
+Inv-loop config system tbs mains videos streams n rows₀ i₀ rows i = Filled tbs mains videos streams n i rows
 
 abbrev μ-loop : tie.MeasureT-loop
-μ-loop config system transports mains videos streams n rows₀ i₀ rows i = n - i
+μ-loop config system tbs mains videos streams n rows₀ i₀ rows i = n - i
 
 new-requires : tie.Need-new-requires Inv-loop μ-loop
 new-requires c κs = search needs

@@ -1,5 +1,5 @@
 -- `front` meets its contract: the end of the stream, and a packet. Assumes nothing.
-use Rattle.tstd.proofs.Moments.{front-ends, front-arrives}
+use Rattle.tstd.proofs.Moments.{buffer-ends, buffer-arrives}
 use borrow.Author.Needs.{needs}
 use Rattle.tstd.proofs.front.front.Statement.{statement}
 use Rattle.tstd.proofs.front.front.Tie as tie
@@ -11,13 +11,13 @@ nothing-delivered-requires : tie.Need-nothing-delivered-requires
 nothing-delivered-requires c κs = search needs
 
 returns : tie.Need-returns
-returns c = front-ends (c .before .before .before .before .before .if1 .taken) (c .nothing-delivered .ensures) (c .before .note-tb .ensures)
+returns c = buffer-ends (c .before .before .before .before .if1 .taken) (c .nothing-delivered .ensures) (c .before .note-tb .ensures)
 
 arrive-requires : tie.Need-arrive-requires
 arrive-requires c κs = search needs
 
 returns-2 : tie.Need-returns-2
-returns-2 c = front-arrives (c .before .before .if1 .left) (c .arrive .ensures)
+returns-2 c = buffer-arrives (c .before .before .if1 .left) (c .arrive .ensures)
 
 pub front-spec : {M : Type 1} → statement M
 front-spec =

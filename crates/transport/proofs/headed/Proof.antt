@@ -1,7 +1,7 @@
--- `Transport::headed` meets its contract. Assumes nothing.
+-- `transport::headed` meets its contract. Assumes nothing.
 use borrow.Author.Needs.{needs}
-use Rattle.transport.proofs.Transport.headed.Statement.{statement}
-use Rattle.transport.proofs.Transport.headed.Tie as tie
+use Rattle.transport.proofs.headed.Statement.{statement}
+use Rattle.transport.proofs.headed.Tie as tie
 
 add-b : tie.Need-add-b
 add-b c = search needs
@@ -30,22 +30,19 @@ push-run-requires-2 c κs = search needs
 push-run-requires-3 : tie.Need-push-run-requires-3
 push-run-requires-3 c κs = search needs
 
-stamp-time-requires : tie.Need-stamp-time-requires
-stamp-time-requires c κs = search needs
-
 returns : tie.Need-returns
 returns c =
-    let p = c .before .before .before .before .before in
+    let p = c .before .before .before .before in
     let x = p .before .before .before .before in
+    let b = x .before .before .before .before in
     rw (
-      c .stamp-time .ensures,
       p .push-run3 .ensures,
       p .before .before .push-run2 .ensures,
       x .push-run .ensures,
       x .before .byte-time3 .ensures,
       x .before .before .before .byte-time2 .ensures,
-      x .before .before .before .before .byte-time .ensures,
-      c .before .before .before .before .before .before .before .before .before .before .before .before .before .before .before .before .before .before .pre .1,
+      b .byte-time .ensures,
+      b .before .before .before .pre .1,
     )
 
 pub headed-spec : {M : Type 1} → statement M
@@ -61,5 +58,4 @@ headed-spec =
     push-run-requires
     push-run-requires-2
     push-run-requires-3
-    stamp-time-requires
     returns)

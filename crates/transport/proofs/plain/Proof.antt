@@ -1,11 +1,10 @@
--- `Transport::plain` meets its contract: content alone is one run. Assumes nothing.
-use mathlib.Core.Path.{sym, ap}
-use Rattle.ieee.specs.Binary64.{ -∞}
-use Rattle.transport.specs.Transport.{byteTime, arrivedWith}
+-- `transport::plain` meets its contract: content alone is one run. Assumes nothing.
+use mathlib.Core.Path.{sym}
+use Rattle.transport.specs.Transport.{byteTime}
 use Rattle.transport.proofs.Ways.{content-delivery}
 use borrow.Author.Needs.{needs}
-use Rattle.transport.proofs.Transport.plain.Statement.{statement}
-use Rattle.transport.proofs.Transport.plain.Tie as tie
+use Rattle.transport.proofs.plain.Statement.{statement}
+use Rattle.transport.proofs.plain.Tie as tie
 
 add-byte-time : tie.Need-add-byte-time
 add-byte-time c = search needs
@@ -21,10 +20,10 @@ nothing-delivered-requires c κs = search needs
 
 returns : tie.Need-returns
 returns c =
-    let s = c .before .before .before .before .before .before .before in
+    let s = c .before .before .before .before .before in
     let a = s .args in
     rw (c .before .before .before .push-run .ensures, c .before .before .before .before .byte-time .ensures, c .nothing-delivered .ensures, s .pre .1)
-    (ap (arrivedWith (a .self .scanner)) (sym (content-delivery (a .self .tb) (a .payload-start) (a .body) (byteTime (a .t0) (a .span)) -∞)))
+    (sym (content-delivery (a .header) (a .payload-start) (a .body) (byteTime (a .t0) (a .span)) (a .decode)))
 
 pub plain-spec : {M : Type 1} → statement M
 plain-spec =
