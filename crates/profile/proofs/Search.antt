@@ -11,7 +11,7 @@ use native.Mathlib.Numerals.{add-one}
 use borrow.Author.Tests.{eq-eqb, ne-eqb, lt-ltb, le-ltb, eqb-true, eqb-false}
 use lib.Dec.{eqb, ltb, leb·suc-suc}
 use lib.ListN.{length, take, drop, getD, drop-of-length-le, length-take}
-use lib.Seq.{drop-cons, getD-take, length-take-le}
+use lib.Seq.{drop-cons, getD-take, length-take-le, take-all}
 use Rattle.profile.specs.Owner.{contains, firstIndex}
 
 -- none of the first i of the n entries is the PID
@@ -117,5 +117,36 @@ module _ (l : List ℕ) (n pid slots end i : ℕ) (whole : length l ≡ slots) (
   pub absent : end ≤ i → contains (take n l) pid ≡ false
   absent h = contains-index (take n l) pid ∙ rw (size, ← same, ← at) (le-ltb i end h)
 
-  pub index : i ≡ firstIndex (take n l) pid
-  index = at ∙ rw same
+-- the search of the first n entries, by that of all
+pub index-of-take : (l : List ℕ) (n pid : ℕ) → firstIndex (take n l) pid ≡ min n (firstIndex l pid)
+unfolding firstIndex
+index-of-take l zero pid = rw zero-min
+index-of-take [] (suc n) pid = rw min-zero
+index-of-take (p ∷ l) (suc n) pid = by-test (eqb p pid) (index-of-take l n pid)
+  where
+    by-test : (t : Bool) → firstIndex (take n l) pid ≡ min n (firstIndex l pid) → cond t 0 (suc (firstIndex (take n l) pid)) ≡ min (suc n) (cond t 0 (suc (firstIndex l pid)))
+    by-test true ih = rw min-zero
+    by-test false ih = rw (suc-min-suc, ih)
+
+-- the entries in use of l, where all of its slots are searched
+module _ (l : List ℕ) (n pid slots end i : ℕ) (whole : length l ≡ slots) (used : end ≡ min n slots) (at : i ≡ firstIndex (take slots l) pid) where
+  in-all : i ≡ firstIndex l pid
+  in-all = at ∙ ap (λ (z : List ℕ). firstIndex z pid) (take-all slots l (omega arith))
+
+  in-use : firstIndex (take n l) pid ≡ min n i
+  in-use = index-of-take l n pid ∙ ap (min n) (sym in-all)
+
+  use-size : length (take n l) ≡ end
+  use-size = length-take n l ∙ rw (whole, used)
+
+  pub found-index : i < end → firstIndex (take n l) pid ≡ i
+  found-index h = in-use ∙ (let e : min n i ≡ i = omega arith in e)
+
+  pub found-in-use : i < end → contains (take n l) pid ≡ true
+  found-in-use h = contains-index (take n l) pid ∙ rw (use-size, found-index h) (lt-ltb i end h)
+
+  pub none-in-use : end ≤ i → contains (take n l) pid ≡ false
+  none-in-use h =
+      contains-index (take n l) pid
+      ∙ rw (use-size, in-use)
+      (le-ltb (min n i) end (omega arith))

@@ -39,14 +39,14 @@ fn first_index(pids: &[u16], count: usize, pid: u16) -> usize
 }
 
 impl Pids {
+    // All slots of the streams are searched, so that the loop has a fixed end; a slot past the count is none.
     // Ruled out: the last of two streams of the PID; the system branch for a PID that is in both lists.
     pub fn owner(self, pid: u16) -> Owner
         ensures { λ r. ⌜ r ≡ ownerBy self pid ⌝ }
     {
         let streams = self.streams;
-        let stream_end = used(self.stream_count, MAX_STREAMS);
-        let i = first_index(&streams, stream_end, pid);
-        if i < stream_end {
+        let i = first_index(&streams, MAX_STREAMS, pid);
+        if i < used(self.stream_count, MAX_STREAMS) {
             return Owner::Stream(i);
         }
         let system = self.system;

@@ -7,31 +7,31 @@ use lib.ListN.{length, take}
 use Rattle.profile.specs.declared.owner.Owner.{Owner}
 use Rattle.profile.specs.Owner.{contains}
 use Rattle.profile.proofs.Ownership.{owner-stream, owner-system, owner-nobody}
-use Rattle.profile.proofs.Search.{present, absent, index}
+use Rattle.profile.proofs.Search.{present, absent, found-index, found-in-use, none-in-use}
 use Rattle.profile.proofs.owner.Pids.owner.Statement.{statement}
 use Rattle.profile.proofs.owner.Pids.owner.Tie as tie
 
 -- the PID is no stream's
 no-stream : (c : tie.Else1) → let a = c .before .before .before .before .before .args in contains (take (a .self .«stream_count») (a .self .streams)) (a .pid) ≡ false
-no-stream c = absent _ _ _ 8 _ _ (search needs) (c .before .before .before .used .ensures) (c .before .first-index .ensures) (c .if1 .left)
-
-used-requires : tie.Need-used-requires
-used-requires c κs = search needs
+no-stream c = none-in-use _ _ _ 8 _ _ (search needs) (c .before .used .ensures) (c .before .before .first-index .ensures) (c .if1 .left)
 
 slice-aggregate-first-index : tie.Need-slice-aggregate-first-index
 slice-aggregate-first-index c = search needs
 
 first-index-requires : tie.Need-first-index-requires
 first-index-requires c κs =
-    let whole : length (c .before .before .before .args .self .streams) ≡ 8 = search needs in
-    omega (arith, whole, c .before .used .ensures)
+    let whole : length (c .before .before .args .self .streams) ≡ 8 = search needs in
+    omega (arith, whole)
+
+used-requires : tie.Need-used-requires
+used-requires c κs = search needs
 
 returns : tie.Need-returns
 returns c =
-    let used = c .before .before .before .used .ensures in
-    let at = c .before .first-index .ensures in
-    ap Owner.Stream (index _ _ _ 8 _ _ (search needs) used at)
-    ∙ sym (owner-stream _ _ _ (present _ _ _ 8 _ _ (search needs) used at (c .if1 .taken)))
+    let used = c .before .used .ensures in
+    let at = c .before .before .first-index .ensures in
+    ap Owner.Stream (sym (found-index _ _ _ 8 _ _ (search needs) used at (c .if1 .taken)))
+    ∙ sym (owner-stream _ _ _ (found-in-use _ _ _ 8 _ _ (search needs) used at (c .if1 .taken)))
 
 used-requires-2 : tie.Need-used-requires-2
 used-requires-2 c κs = search needs
@@ -56,9 +56,9 @@ pub owner-spec : {M : Type 1} → statement M
 owner-spec =
     tie.close
     (tie.spec
-    used-requires
     slice-aggregate-first-index
     first-index-requires
+    used-requires
     returns
     used-requires-2
     slice-aggregate-first-index-2
