@@ -6,5 +6,4 @@ pub mod Feeds
 pub mod Listed
 pub mod Field
 pub mod FloatWord
-pub mod ReportWords
 pub mod RecordCases

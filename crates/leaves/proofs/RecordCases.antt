@@ -4,13 +4,15 @@ use mathlib.Core.Path.{_≡_}
 use mathlib.Core.Bool.{true, false}
 use mathlib.Core.List.{List}
 use borrow.Author.Tests.{eq-eqb, ne-eqb}
+use lib.Ieee.{binary64, toBits}
 use lib.ListN.{length}
 use Rattle.error.specs.declared.Refusal.{Refusal}
 use Rattle.error.specs.Code.{codeOf}
 use Rattle.report.specs.declared.RecordAnswer.the-variants.{Done, Refused}
 use Rattle.report.specs.declared.Recorded.{Recorded}
 use Rattle.report.specs.Record.{recorded}
-use Rattle.leaves.specs.Record.{reportAt, violationAt, reportWords, areWords, recordLeaf, recordOf, Records}
+use Rattle.words.specs.Report.{reportWords}
+use Rattle.leaves.specs.Record.{reportAt, violationAt, areWords, recordLeaf, recordOf, Records}
 
 module _ (ws line : List ℕ) where
   none : areWords ws line ≡ false → (n : ℕ) → n ≡ codeOf Refusal.WorkTooShort .number → Records ws line n ws
@@ -27,7 +29,7 @@ module _ (ws line : List ℕ) where
     both : areWords ws line ≡ true
     both = rw (eq-eqb (length ws) 324 e, eq-eqb (length line) 5 f)
 
-    pub records-done : r .answer ≡ Done → (ws' : List ℕ) → ws' ≡ reportWords (r .report) → Records ws line 0 ws'
+    pub records-done : r .answer ≡ Done → (ws' : List ℕ) → ws' ≡ reportWords (toBits binary64) (r .report) → Records ws line 0 ws'
     unfolding recordOf recordLeaf
     records-done d ws' h = record { is = rw (both, ← is, d); holds = rw (both, ← is, d) h }
 

@@ -3,15 +3,12 @@
 use Prim.Native.Nat.{ℕ, _+_, _*_, _%_}
 use mathlib.Core.Path.{_≡_}
 use mathlib.Core.Bool.{Bool, cond, _&&_}
-use mathlib.Core.List.{List, [], _∷_, map, flatMap}
+use mathlib.Core.List.{List, map}
 use lib.ListN.{length, getD}
 use lib.Dec.{eqb}
 use lib.Ieee.{Float, binary64, ofBits, toBits}
 use Rattle.error.specs.declared.Refusal.{Refusal}
 use Rattle.error.specs.Code.{codeOf}
-use Rattle.report.specs.declared.violation.Figure.{Figure}
-use Rattle.report.specs.declared.violation.Figure.the-variants.{Bytes, Seconds}
-use Rattle.report.specs.declared.violation.ViolationFields.{ViolationFields}
 use Rattle.report.specs.declared.violation.TStdViolation.{TStdViolation}
 use Rattle.report.specs.declared.violation.TStdViolation.the-variants.{TbOverflow, TbBusyOverOneSecond, MainOverflow, MainUnderflow, MbOverflow, MbBusyOverOneSecond, EbUnderflow, DelayOverOneSecond, BsysOverflow}
 use Rattle.report.specs.declared.ViolationLine.{ViolationLine}
@@ -19,9 +16,9 @@ use Rattle.report.specs.declared.TStdReport.{TStdReport}
 use Rattle.report.specs.declared.RecordAnswer.{RecordAnswer}
 use Rattle.report.specs.declared.RecordAnswer.the-variants.{Done, Refused}
 use Rattle.report.specs.declared.Recorded.{Recorded}
-use Rattle.report.specs.Violation.{fieldsOf}
 use Rattle.report.specs.Record.{recorded}
 use Rattle.words.specs.Config.{upTo}
+use Rattle.words.specs.Report.{reportWords}
 use Rattle.leaves.specs.Leaves.{Leaf, done}
 
 -- ---- read
@@ -60,28 +57,9 @@ reportAt ws =
       «modelled_seconds» = ofBits binary64 (getD ws 2 0);
     }
 
--- ---- told
-unfoldable pub figureWord : Figure → ℕ
-figureWord (Bytes n) = n
-figureWord (Seconds s) = toBits binary64 s
-
-unfoldable pub fieldsWords : ViolationFields → List ℕ
-fieldsWords f = f .kind ∷ f .pid ∷ f .limit ∷ toBits binary64 (f .«decode_time») ∷ figureWord (f .figure) ∷ []
-
-unfoldable pub lineWords : ViolationLine → List ℕ
-lineWords l = fieldsWords (fieldsOf (l .violation))
-
-unfoldable pub reportWords : TStdReport → List ℕ
-reportWords r =
-    r .«violation_events»
-    ∷ r .«pcr_samples»
-    ∷ toBits binary64 (r .«modelled_seconds»)
-    ∷ r .«violation_count»
-    ∷ flatMap lineWords (r .violations)
-
 -- ---- a line recorded: number 2 for words of another length, and a refusal leaves the report as it was
 unfoldable pub recordLeaf : RecordAnswer → TStdReport → List ℕ → Leaf
-recordLeaf Done after ws = done (reportWords after)
+recordLeaf Done after ws = done (reportWords (toBits binary64) after)
 recordLeaf (Refused x) after ws = record { number = codeOf x .number; words = ws }
 
 abbrev pub recordedLeaf : Recorded → List ℕ → Leaf

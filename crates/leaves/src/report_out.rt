@@ -5,12 +5,13 @@ use report::TStdReport;
 use report::ViolationLine;
 ghost use mathlib.Core.Path.{_≡_};
 ghost use Prim.Native.Nat.{_+_, _≤_};
+ghost use lib.Ieee.{binary64, toBits};
 ghost use lib.ListN.{length};
 ghost use lib.Seq.{sets};
-ghost use Rattle.leaves.specs.Record.{figureWord, lineWords, reportWords};
+ghost use Rattle.words.specs.Report.{figureWord, lineWords, reportWords};
 
 fn figure_word(figure: Figure) -> u64
-    ensures { λ r. ⌜ r ≡ figureWord figure ⌝ }
+    ensures { λ r. ⌜ r ≡ figureWord (toBits binary64) figure ⌝ }
 {
     match figure {
         Figure::Bytes(n) => n,
@@ -20,7 +21,7 @@ fn figure_word(figure: Figure) -> u64
 
 fn write_line(line: ViolationLine, words: &mut [u64], at: usize)
     requires { ⌜ at + 5 ≤ length (now words) ⌝ }
-    ensures { λ _. ⌜ now (words .exit) ≡ sets (now (words .entry)) at (lineWords line) ⌝ }
+    ensures { λ _. ⌜ now (words .exit) ≡ sets (now (words .entry)) at (lineWords (toBits binary64) line) ⌝ }
 {
     let violation = line.violation;
     let fields = violation.fields();
@@ -34,7 +35,7 @@ fn write_line(line: ViolationLine, words: &mut [u64], at: usize)
 
 pub(crate) fn write_report(report: TStdReport, words: &mut [u64])
     requires { ⌜ length (now words) ≡ 324 ⌝ }
-    ensures { λ _. ⌜ now (words .exit) ≡ reportWords report ⌝ }
+    ensures { λ _. ⌜ now (words .exit) ≡ reportWords (toBits binary64) report ⌝ }
 {
     words[0] = report.violation_events;
     words[1] = report.pcr_samples;

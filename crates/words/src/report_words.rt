@@ -7,6 +7,7 @@ ghost use mathlib.Core.Path.{_≡_};
 ghost use Prim.Native.Nat.{_+_, _≤_};
 ghost use lib.ListN.{length};
 ghost use lib.Seq.{sets};
+ghost use Rattle.words.specs.Bits.{bitsOf};
 ghost use Rattle.words.specs.Report.{figureWord, lineWords, reportAfter};
 
 pub const REPORT_WORDS: usize = 324;
@@ -17,7 +18,7 @@ const HEAD_WORDS: usize = 4;
 const LINE_WORDS: usize = 5;
 
 fn figure_word(figure: Figure) -> u64
-    ensures { λ r. ⌜ r ≡ figureWord figure ⌝ }
+    ensures { λ r. ⌜ r ≡ figureWord bitsOf figure ⌝ }
 {
     match figure {
         Figure::Bytes(n) => n,
@@ -27,7 +28,7 @@ fn figure_word(figure: Figure) -> u64
 
 fn write_line(line: ViolationLine, words: &mut [u64], at: usize)
     requires { ⌜ at + 5 ≤ length (now words) ⌝ }
-    ensures { λ _. ⌜ now (words .exit) ≡ sets (now (words .entry)) at (lineWords line) ⌝ }
+    ensures { λ _. ⌜ now (words .exit) ≡ sets (now (words .entry)) at (lineWords bitsOf line) ⌝ }
 {
     let violation = line.violation;
     let fields = violation.fields();

@@ -1,6 +1,6 @@
 -- `figure_word` meets its contract. Each arm is a case of `figureWord`. Assumes nothing.
 use borrow.Author.Needs.{needs}
-use Rattle.leaves.specs.Record.{figureWord}
+use Rattle.words.specs.Report.{figureWord}
 use Rattle.leaves.proofs.report_out.figure_word.Statement.{statement}
 use Rattle.leaves.proofs.report_out.figure_word.Tie as tie
 

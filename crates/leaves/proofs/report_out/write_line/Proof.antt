@@ -1,11 +1,9 @@
 -- `write_line` meets its contract. The five stores are the words of the line. Assumes nothing.
 use borrow.Author.Needs.{needs}
 use native.Mathlib.Omega.{arith}
-use lib.ListN.{length-set}
-use Rattle.report.specs.Violation.{fieldsOf}
-use Rattle.leaves.specs.Record.{figureWord, lineWords, fieldsWords}
 use lib.Ieee.{binary64, toBits}
-use Rattle.words.proofs.Stores.{sets-five}
+use lib.ListN.{length-set}
+use Rattle.words.proofs.Report.{line-stored}
 use Rattle.leaves.proofs.report_out.write_line.Statement.{statement}
 use Rattle.leaves.proofs.report_out.write_line.Tie as tie
 
@@ -70,12 +68,10 @@ same-length : tie.Need-same-length
 same-length c = search needs
 
 returns : tie.Need-returns
-unfolding lineWords fieldsWords
 returns c =
     let a = c .before .before .before .before .before .before .args in
-    let f = fieldsOf (a .line .violation) in
     rw (c .before .bits-of .ensures, c .figure-word .ensures, c .before .before .before .before .fields .ensures)
-    (sets-five (a .words .now) (a .at) (f .kind) (f .pid) (f .limit) (toBits binary64 (f .«decode_time»)) (figureWord (f .figure)))
+    (line-stored (toBits binary64) (a .line) (a .words .now) (a .at))
 
 pub write-line-spec : {M : Type 1} → statement M
 write-line-spec =

@@ -2,10 +2,8 @@
 use borrow.Author.Needs.{needs}
 use native.Mathlib.Omega.{arith}
 use lib.ListN.{length-set}
-use Rattle.report.specs.Violation.{fieldsOf}
-use Rattle.words.specs.Report.{figureWord, lineWords, fieldsWords}
 use Rattle.words.specs.Bits.{bitsOf}
-use Rattle.words.proofs.Stores.{sets-five}
+use Rattle.words.proofs.Report.{line-stored}
 use Rattle.words.proofs.report_words.write_line.Statement.{statement}
 use Rattle.words.proofs.report_words.write_line.Tie as tie
 
@@ -70,12 +68,10 @@ same-length : tie.Need-same-length
 same-length c = search needs
 
 returns : tie.Need-returns
-unfolding lineWords fieldsWords
 returns c =
     let a = c .before .before .before .before .before .before .args in
-    let f = fieldsOf (a .line .violation) in
     rw (c .before .bits-of .ensures, c .figure-word .ensures, c .before .before .before .before .fields .ensures)
-    (sets-five (a .words .now) (a .at) (f .kind) (f .pid) (f .limit) (bitsOf (f .«decode_time»)) (figureWord (f .figure)))
+    (line-stored bitsOf (a .line) (a .words .now) (a .at))
 
 pub write-line-spec : {M : Type 1} → statement M
 write-line-spec =

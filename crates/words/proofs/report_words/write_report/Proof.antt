@@ -5,12 +5,13 @@ use mathlib.Core.Path.{_∙_}
 use native.Mathlib.Omega.{arith}
 use lib.ListN.{length-set}
 use Rattle.profile.proofs.Copies.{length-of-map}
-use Rattle.words.proofs.Report.{other-length, Lined, lines-start, line-next, report-ends}
+use Rattle.words.specs.Bits.{bitsOf}
+use Rattle.words.proofs.Report.{other-length, that-length, Lined, lines-start, line-next, report-ends}
 use Rattle.words.proofs.report_words.write_report.Statement.{statement}
 use Rattle.words.proofs.report_words.write_report.Tie as tie
 
 abbrev Inv-loop : tie.InvT-loop
-Inv-loop words₀ lines i₀ words i = Lined lines words₀ words i
+Inv-loop words₀ lines i₀ words i = Lined bitsOf lines words₀ words i
 
 abbrev μ-loop : tie.MeasureT-loop
 μ-loop words₀ lines i₀ words i = 64 - i
@@ -34,7 +35,7 @@ slice-write-words-4 : tie.Need-slice-write-words-4 Inv-loop μ-loop
 slice-write-words-4 c = simp length-set (omega arith)
 
 loop-holds : tie.Need-loop-holds Inv-loop μ-loop
-loop-holds c = lines-start _ _ (search (length-of-map, needs)) (simp length-set (c .before .before .if1 .left))
+loop-holds c = lines-start _ _ _ (search (length-of-map, needs)) (simp length-set (c .before .before .if1 .left))
 
 mul-line : tie.Need-mul-line Inv-loop μ-loop
 mul-line c = search needs
@@ -59,7 +60,7 @@ loop-less c = search needs
 
 loop-again : tie.Need-loop-again Inv-loop μ-loop
 loop-again c =
-    rw (c .before .before .write-line .ensures) (line-next _ _ _ _ _ (c .before .before .before .before .before .before .loop .inv) (search needs))
+    rw (c .before .before .write-line .ensures) (line-next _ _ _ _ _ _ (c .before .before .before .before .before .before .loop .inv) (search needs))
 
 same-length : tie.Need-same-length Inv-loop μ-loop
 same-length c = c .before .loop .inv .words .size ∙ simp length-set
@@ -67,7 +68,9 @@ same-length c = c .before .loop .inv .words .size ∙ simp length-set
 returns-2 : tie.Need-returns-2 Inv-loop μ-loop
 returns-2 c =
     let a = c .before .before .before .before .before .before .args in
-    report-ends (a .report) (a .words .now) (c .before .before .before .before .if1 .left) _ _ (rw (c .before .before .before .bits-of .ensures) at (c .before .loop .inv)) (search needs)
+    let size = c .before .before .before .before .if1 .left in
+    report-ends bitsOf (a .report) (a .words .now) size _ _ (rw (c .before .before .before .bits-of .ensures) at (c .before .loop .inv)) (search needs)
+    ∙ that-length (a .report) (a .words .now) size
 
 pub write-report-spec : {M : Type 1} → statement M
 write-report-spec =
