@@ -1,5 +1,5 @@
 -- The answer to a refused and to an accepted recording.
-use Prim.Native.Nat.{ℕ, _-_}
+use Prim.Native.Nat.{_-_}
 use mathlib.Core.List.{List, [], _++_}
 use lib.ListN.{length, replicate}
 use Rattle.error.specs.Code.{codeOf, codeNumbered}

@@ -8,7 +8,7 @@ use crate::queue::entry;
 use crate::queue::pop;
 use crate::queue::push;
 ghost use mathlib.Core.Path.{_≡_};
-ghost use Prim.Native.Nat.{ℕ, _≤_, _<_};
+ghost use Prim.Native.Nat.{_<_};
 ghost use Rattle.branch.specs.Queue.{Lies, placeOf, threeAt};
 ghost use Rattle.branch.specs.CumulativeIn.{clamp, fraction, totalOf, finalTotal, timeOfCumulative};
 ghost use Rattle.branch.specs.InflowInWork.{runOf, inflowOf, runsOf, SettledTo, ArrivedTo, RunPushedTo};

@@ -7,7 +7,7 @@ pub mod sys_branch;
 pub mod video_branch;
 
 ghost use mathlib.Core.Path.{_≡_};
-ghost use Rattle.ieee.specs.Binary64.{0f, -∞, +∞};
+ghost use Rattle.ieee.specs.Binary64.{ -∞, +∞};
 
 // A run of bytes delivered over t0 to t1.
 pub struct Run {

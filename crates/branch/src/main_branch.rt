@@ -12,14 +12,13 @@ use crate::queue::entry;
 use crate::queue::pop;
 use crate::queue::push;
 ghost use mathlib.Core.Path.{_≡_};
-ghost use mathlib.Core.Bool.{Bool, cond, _&&_, true};
-ghost use Prim.Native.Nat.{ℕ, _+_, _*_, _≤_, _<_};
-ghost use lib.ListN.{length};
+ghost use mathlib.Core.Bool.{cond, true};
+ghost use Prim.Native.Nat.{_+_, _*_, _≤_, _<_};
 ghost use lib.Ieee.{ne};
-ghost use Rattle.ieee.specs.Binary64.{0f, -∞, +∞};
+ghost use Rattle.ieee.specs.Binary64.{ -∞, +∞};
 ghost use Rattle.events.specs.Slots.{slots, notedAll};
 ghost use Rattle.branch.specs.Queue.{Lies, placeOf, threeAt};
-ghost use Rattle.branch.specs.MainBranch.{removalEvents, drain as drainDef, lookAtEnd, fed, closeAu, openUnit, stampOf, addRun, deliver as deliverDef, newMain};
+ghost use Rattle.branch.specs.MainBranch.{removalEvents, drain as drainDef, lookAtEnd, fed, closeAu, openUnit, stampOf, addRun, deliver as deliverDef};
 ghost use Rattle.branch.specs.MainInWork.{newBranch, noUnit, runsPlace, unitsPlace, unitOf, mainOf, BranchLies, ready as readyDef, RemovedTo, DrainedTo, FedTo, StepOf};
 
 // What does not change: BSn in bytes, and where the chain's part of the work begins, with the depth of its two rings.

@@ -5,7 +5,7 @@ use crate::queue::Pushed;
 use crate::queue::Ring;
 use crate::queue::offset;
 ghost use mathlib.Core.Path.{_≡_};
-ghost use Prim.Native.Nat.{ℕ, _<_};
+ghost use Prim.Native.Nat.{_<_};
 ghost use Rattle.branch.specs.Queue.{Lies, placeOf, PushedTo};
 ghost use Rattle.branch.specs.VideoInWork.{markAt};
 

@@ -1,6 +1,6 @@
 // First-in first-out queues in lent work: rings of depth places, of a width of floats each. Only a push writes the work.
 ghost use mathlib.Core.Path.{_≡_};
-ghost use Prim.Native.Nat.{ℕ, _+_, _*_, _≤_, _<_};
+ghost use Prim.Native.Nat.{_+_, _*_, _≤_, _<_};
 ghost use Rattle.branch.specs.Queue.{Lies, slotOf, placeOf, threeAt, popDef, PushedTo};
 
 // Where a ring stands in the work: the same for a whole replay.

@@ -26,7 +26,7 @@ use ieee::max;
 use ieee::min;
 ghost use mathlib.Core.Path.{_≡_};
 ghost use mathlib.Core.Bool.{true, false, cond};
-ghost use Prim.Native.Nat.{ℕ, _+_, _*_, _≤_, _<_};
+ghost use Prim.Native.Nat.{_+_, _*_, _≤_, _<_};
 ghost use lib.Ieee.{inf, eq, binary64, sub};
 ghost use Rattle.ieee.specs.MaxMin.{maxOf};
 ghost use Rattle.events.specs.Slots.{slots, notedAll};

@@ -1,7 +1,7 @@
 -- Operations on binary64 in the usual signs for rounded operations, and the literals of the model by their bit patterns,
 -- which is how the code has them.
 use lib.Ieee.{Float, inf, binary64, ofBits, add, sub, mul, div}
-use mathlib.Core.Bool.{Bool, true, false}
+use mathlib.Core.Bool.{true, false}
 
 infixl 6 _⊕_
 abbrev pub _⊕_ : Float → Float → Float

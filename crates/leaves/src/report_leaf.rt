@@ -6,7 +6,6 @@ use crate::report_out::write_report;
 use error::Refusal;
 use report::RecordAnswer;
 use report::TStdReport;
-ghost use mathlib.Core.Path.{_≡_};
 ghost use Rattle.leaves.specs.Record.{Records};
 
 // Number 2 for words of another length. Ruled out: a report changed by a refusal; an event that is counted and makes no line.

@@ -1,12 +1,10 @@
 -- A chain of the model: the transport buffer TBn and the branch behind it; one packet's step, and the end
 -- (the loop over packets and the wrap-up of the Rust's `analyze_tstd`, for one stream).
 use Prim.Native.Nat.{ℕ, _+_}
-use mathlib.Core.Bool.{Bool, true, false, cond}
+use mathlib.Core.Bool.{Bool, true, false}
 use mathlib.Core.List.{List, [], _++_}
-use lib.Dec.{eqb}
-use lib.IntN.{pos}
-use lib.Ieee.{Float, binary64, ofInt, toUnsigned, lt}
-use Rattle.ieee.specs.Binary64.{_⊕_, _⊖_, _⊗_, _⊘_, -∞, 0f, 1f, 8f, 188f, 512f, 1e-6f}
+use lib.Ieee.{Float, toUnsigned, lt}
+use Rattle.ieee.specs.Binary64.{_⊕_, _⊘_, 0f, 1f, 8f, 512f, 1e-6f}
 use Rattle.packet.specs.declared.TsPacket.{TsPacket}
 use Rattle.scanner.specs.declared.Runs.{Runs}
 use Rattle.arrival.specs.declared.RateInterval.{RateInterval}

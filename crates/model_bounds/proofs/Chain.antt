@@ -20,7 +20,6 @@ use Rattle.arrival.specs.Bounds.{IntervalWithin, AllWithin}
 use Rattle.arrival.specs.Times.{arrivalAt, covering}
 use Rattle.arrival.proofs.Within.{covering-within}
 use Rattle.fifo.specs.declared.FluidFifo.{FluidFifo}
-use Rattle.fifo.specs.FluidFifo.{new}
 use Rattle.fifo.specs.Bounds.{Bounded}
 use Rattle.fifo.proofs.Bounds.{new-bounded, longest-recording, peak-below}
 use Rattle.events.specs.Event.{Event, tbOverflow, tbBusy}

@@ -7,10 +7,10 @@ ghost use Prim.Native.Nat.{_+_, _-_, _*_, _/_, _%_, _^_, _≤_, _<_, min};
 ghost use lib.Dec.{eqb, ltb, leb};
 ghost use lib.ListN.{length, getD, take, drop};
 ghost use Rattle.syntax.specs.Bits.{bits};
-ghost use Rattle.packet.specs.AdaptationField.{fieldOf, read, isSet, roomOf, dataRoom, extensionRoom, extensionFieldsRoom, adaptationFieldOf, extensionOf, tcimsbf8};
+ghost use Rattle.packet.specs.AdaptationField.{fieldOf, isSet, roomOf, dataRoom, extensionRoom, extensionFieldsRoom, adaptationFieldOf, extensionOf, tcimsbf8};
 ghost use Rattle.packet.specs.Places.{Flagged, Placed, Extended};
 ghost use Rattle.packet.specs.Packet.{parseOf, packetOf, payloadOf, privateDataOf};
-ghost use Rattle.packet.specs.Layout.{inSync, onGrid, layoutOf, windowOf};
+ghost use Rattle.packet.specs.Layout.{onGrid, layoutOf, windowOf};
 
 // A clock reference: 33 bits of 90 kHz, and nine of 27 MHz.
 pub struct ClockReference {

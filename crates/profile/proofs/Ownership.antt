@@ -5,7 +5,7 @@ use mathlib.Core.Path.{_≡_, refl, sym, ap, _∙_, subst}
 use mathlib.Core.Bool.{Bool, true, false, cond}
 use mathlib.Core.List.{List}
 use borrow.Author.Tests.{ltb-true}
-use lib.ListN.{length, take, getD, length-map, length-take, List·getD-map}
+use lib.ListN.{length, getD, length-map, length-take, List·getD-map}
 use lib.Seq.{getD-take}
 use native.Mathlib.Nat.{min-le-left}
 use native.Mathlib.Omega.{arith}

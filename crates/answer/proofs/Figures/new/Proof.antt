@@ -1,5 +1,4 @@
 use borrow.Author.Needs.{needs}
-use mathlib.Core.Path.{_≡_, refl, ap}
 use Rattle.answer.specs.Answer.{figuresOf}
 use Rattle.report.specs.Report.{emptyStats}
 use Rattle.answer.proofs.Figures.new.Statement.{statement}
