@@ -8,26 +8,25 @@ use lib.Dec.{eqb}
 use lib.ListN.{length}
 use lib.Ieee.{Float}
 use borrow.Author.Tests.{eq-eqb, ne-eqb, eqb-true}
-use Rattle.ieee.specs.Binary64.{ -∞, 188f}
+use Rattle.ieee.specs.Binary64.{ -∞}
 use Rattle.clock.specs.Timestamp.{timestampModulus}
 use Rattle.packet.specs.Packet.{payloadOf}
 use Rattle.scanner.specs.declared.DecodeTs.{DecodeTs}
 use Rattle.scanner.specs.declared.Runs.{Runs}
 use Rattle.scanner.specs.declared.Fed.{Fed}
 use Rattle.scanner.specs.declared.PesScanner.{PesScanner}
-use Rattle.scanner.specs.Unit.{Open, none, nextOpen, runsIn}
+use Rattle.scanner.specs.Unit.{Open, nextOpen, runsIn}
 use Rattle.scanner.specs.State.{pastHeader, scannerOf, openOf, fedOf}
 use Rattle.scanner.specs.Joined.{onlyBody}
-use Rattle.scanner.proofs.Steps.{fed-runs, fed-scanner, past-fed, new-is}
+use Rattle.scanner.proofs.Steps.{fed-runs, fed-scanner, past-fed}
 use Rattle.arrival.specs.declared.RateInterval.{RateInterval}
 use Rattle.arrival.specs.Bounds.{IntervalWithin}
 use Rattle.arrival.proofs.Stamps.{decode-time-is}
 use Rattle.arrival.proofs.DecodeTimes.{reference-within}
 use Rattle.fifo.specs.declared.FluidFifo.{FluidFifo}
-use Rattle.fifo.specs.FluidFifo.{new, pushed}
 use Rattle.transport.specs.declared.Arrived.{Arrived}
-use Rattle.transport.specs.Arrive.{stampTime, nothing, arrive, arriveIn}
-use Rattle.transport.specs.Transport.{Transport, Passed, newTransport, stampAnswer, arrivedWith, arrivedOf}
+use Rattle.transport.specs.Arrive.{stampTime, arrive, arriveIn}
+use Rattle.transport.specs.Transport.{Transport, Passed, stampAnswer, arrivedWith, arrivedOf}
 use Rattle.transport.proofs.Payloads.{within, payload-end, payload-length, next-empty}
 use Rattle.transport.proofs.Ways.{fits-in, inside-way, empty-way}
 
@@ -41,19 +40,6 @@ within-extendable i w = omega (arith, reference-within i 0 w)
 pub stamp-answer : (i : RateInterval) (ts : DecodeTs) → Extendable i → stampAnswer i ts ≡ stampTime i ts
 stamp-answer i DecodeTs.Absent h = refl
 stamp-answer i (DecodeTs.At raw) h = decode-time-is i raw h
-
--- Before the first packet no unit is open.
-pub new-tb : (rx : ℕ) → newTransport rx .tb ≡ new rx
-unfolding newTransport
-new-tb rx = refl
-
-pub new-scanner : (rx : ℕ) → newTransport rx .scanner ≡ scannerOf none
-unfolding newTransport
-new-scanner rx = new-is
-
--- A scanner that is fed a payload of no bytes keeps the same unit.
-pub fed-empty : (o : Open) (bit : Bool) (w : List ℕ) → fedOf (openOf (scannerOf o)) bit (payloadOf w 188) .scanner ≡ scannerOf o
-fed-empty o bit w = fed-scanner o bit (payloadOf w 188) ∙ ap scannerOf (next-empty o bit w)
 
 -- A packet of a stream whose scanner keeps the open unit o.
 module _ (t : Transport) (o : Open) (keeps : t .scanner ≡ scannerOf o) (w : List ℕ) (start : ℕ) (bit : Bool) (t0 u : Float) (i : RateInterval) where
@@ -84,11 +70,6 @@ module _ (t : Transport) (o : Open) (keeps : t .scanner ≡ scannerOf o) (w : Li
   arrive-runs =
       ap (λ (r : Runs). arrivedWith (arrived .transport .scanner) (arrive (t .tb) start r t0 u (stampAnswer i (r .«decode_ts»)))) fed-by
       ∙ ap (λ (s : PesScanner). arrivedWith s (arrive (t .tb) start runs t0 u (stampAnswer i (runs .«decode_ts»)))) arrive-scanner
-
-  -- without payload
-  pub arrive-empty : start ≡ 188 → arrived ≡ arrivedWith (scannerOf o) (record { tb = pushed (t .tb) t0 u 188f .fifo; delivered = nothing })
-  unfolding arrivedOf
-  arrive-empty e = rw (eq-eqb start 188 e, keeps) (ap (arrivedWith (scannerOf o)) (empty-way _ _ _ _ _ _ e))
 
   -- by an interval whose reference `extend_near` takes
   module _ (e : Extendable i) where

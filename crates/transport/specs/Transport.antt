@@ -8,10 +8,9 @@ use Rattle.ieee.specs.Binary64.{_⊕_, _⊗_, _⊘_, -∞, 188f}
 use Rattle.packet.specs.Packet.{payloadOf}
 use Rattle.scanner.specs.declared.DecodeTs.{DecodeTs}
 use Rattle.scanner.specs.declared.PesScanner.{PesScanner}
-use Rattle.scanner.specs.State.{idle, openOf, fedOf}
+use Rattle.scanner.specs.State.{openOf, fedOf}
 use Rattle.arrival.specs.declared.RateInterval.{RateInterval}
 use Rattle.arrival.specs.Times.{decodeTimeOrZero}
-use Rattle.fifo.specs.FluidFifo.{new}
 use Rattle.fifo.specs.declared.FluidFifo.{FluidFifo}
 use Rattle.branch.specs.declared.Delivered.{Delivered}
 use Rattle.transport.specs.declared.Arrived.{Arrived}
@@ -24,10 +23,6 @@ pub record Transport : Type 0 where
 pub record Passed : Type 0 where
   pub transport : Transport
   pub delivered : Delivered
-
--- a stream before its first packet
-unfoldable pub newTransport : ℕ → Transport
-newTransport rx = record { tb = new rx; scanner = idle }
 
 -- `frac` by the packet's span
 abbrev pub byteTime : Float → Float → ℕ → Float
