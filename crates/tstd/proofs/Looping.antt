@@ -7,11 +7,15 @@ use mathlib.Core.Bool.{Bool, true, false, cond, true≢false}
 use mathlib.Core.List.{List, []}
 use mathlib.Core.Logic.{_≢_}
 use lib.ListN.{length, getD, set, take, drop, replicate, length-map, List·getD-map}
-use lib.Dec.{leb}
+use lib.Dec.{leb, ltb}
 use lib.Ieee.{Float}
-use borrow.Author.Tests.{leb-true}
+use borrow.Author.Tests.{leb-true, ltb-true, ltb-false}
 use Rattle.profile.proofs.Ranges.{and-left}
 use Rattle.error.specs.declared.Refusal.{Refusal}
+use Rattle.packet.specs.Packet.{parseOf}
+use Rattle.header.specs.declared.PacketHeader.{PacketHeader}
+use Rattle.header.specs.Header.{headerOf}
+use Rattle.header.proofs.Headers.{parsed-packet}
 use Rattle.recording.specs.Read.{packetAt}
 use Rattle.arrival.specs.Work.{startOfArrival, nextArrival, holds}
 use Rattle.arrival.proofs.Covering.{starts}
@@ -28,8 +32,8 @@ use Rattle.branch.proofs.Rings.{next-multiple, outside-refl, outside-then, outs
 use Rattle.profile.specs.declared.owner.Owner.{Owner}
 use Rattle.profile.specs.Config.{streamsOf, unusedStream}
 use Rattle.profile.specs.declared.owner.Pids.{Pids}
-use Rattle.profile.specs.Owner.{ownerOf, pidsOf}
-use Rattle.profile.proofs.Ownership.{owner-slot}
+use Rattle.profile.specs.Owner.{ownerOf, ownerBy, pidsOf}
+use Rattle.profile.proofs.Ownership.{owner-slot, pids-owner}
 use Rattle.summary.specs.Summary.{emptySlots, notedFound}
 use Rattle.fifo.specs.declared.FluidFifo.{FluidFifo}
 use Rattle.scanner.specs.declared.PesScanner.{PesScanner}
@@ -46,11 +50,14 @@ use Rattle.tstd.specs.declared.stream.StreamModel.{StreamModel}
 use Rattle.tstd.specs.declared.run.Ran.{Ran as RanState}
 use Rattle.tstd.specs.InWork.{streamModel, unusedTb, TbsOf}
 use Rattle.tstd.specs.Moments.{ownerIndex, momentOf, startTimes, nextTimes, BufferOf, FrontOf, newSystem, systemRun, systemPushed}
+use Rattle.tstd.specs.NullPackets.{isNobody, IsNull, SameInterval, nullTimes, windowAt, Nulls, no-null, null-more, Skips}
 use Rattle.tstd.specs.Run.{Pass, streamCount, depthOf, clockFrom, Ready, whole, Reached, before-all, one-more, At, RanTo}
 use Rattle.tstd.proofs.ChainIs.{new-is, StepIs, main-steps, video-steps}
 use Rattle.tstd.proofs.Going.{Going, going-starts, going-next, step-refused, going-done}
 use Rattle.tstd.proofs.Steps.{PacketIs, MomentIs, at-end, at-unparsed, at-packet, moment-is, window-is, count-few, streams-counted, stream-used}
 use Rattle.tstd.proofs.Turns.{Turned, Moves, Replaced, replaced-set, replaced-none, stream-full, stream-turns}
+use Rattle.tstd.proofs.Moments.{next-parsed}
+use Rattle.tstd.proofs.NullPackets.{within-next}
 use Rattle.tstd.proofs.Scanned.{Scanned, front-scanned}
 use Rattle.tstd.proofs.Moves.{packet-moves, system-turns, nobody-turns, unparsed-turns, end-moves}
 
@@ -68,6 +75,12 @@ pub record LoopInv (g : Pass) (k at : ℕ) (isFull : Bool) (w : List Float) (ts 
   pub ready : Ready g
   pub loop : Looping g ready k at isFull w ts ss ms vs system times sl
 
+-- with what an `if` leaves in the variables
+pub loop-as : {g : Pass} {k k' at at' : ℕ} {isFull : Bool} {w : List Float} {ts : List FluidFifo} {ss : List PesScanner} {ms : List MainBranch} {vs : List VideoBranch} {system : SystemChain} {times times' : Times} {sl : Slots}
+    → times' ≡ times → at' ≡ at → k' ≡ k → LoopInv g (k + 1) (at + g .layout .«packet_size») isFull w ts ss ms vs system times sl
+    → LoopInv g (k' + 1) (at' + g .layout .«packet_size») isFull w ts ss ms vs system times' sl
+loop-as e f h x = rw (e, f, h) x
+
 -- places of the recording are few
 pub at-fits : (g : Pass) (ready : Ready g) (k at : ℕ) → at ≡ g .layout .«sync_offset» + k * g .layout .«packet_size» → k < g .count + streamCount g → at + g .layout .«packet_size» < 2 ^ 64
 at-fits g ready k at e h =
@@ -76,6 +89,15 @@ at-fits g ready k at e h =
     let w = ready .window in
     let s = ready .size-few in
     let m = mul-le-mul {n₁ = k} {m₁ = g .layout .«packet_size»} {n₂ = 2 ^ 24} {m₂ = 204} (omega arith) s in
+    omega arith
+
+pub at-small : (g : Pass) (ready : Ready g) (k at : ℕ) → at ≡ g .layout .«sync_offset» + k * g .layout .«packet_size» → k < g .count + streamCount g → at ≤ 2 ^ 33
+at-small g ready k at e h =
+    let a = count-few g ready in
+    let b = ready .few in
+    let w = ready .window in
+    let s = ready .size-few in
+    let m = mul-le-mul {n₁ = k} {m₁ = g .layout .«packet_size»} {n₂ = 2 ^ 24 + 8} {m₂ = 204} (omega arith) s in
     omega arith
 
 -- ---- its begin
@@ -136,11 +158,8 @@ module _ (g : Pass) (ready : Ready g) where
 
 module _ (g : Pass) (ready : Ready g) (k at : ℕ) (isFull : Bool) (w : List Float) (ts : List FluidFifo) (ss : List PesScanner) (ms : List MainBranch) (vs : List VideoBranch) (system : SystemChain) (times : Times) (sl : Slots)
     (inv : Looping g ready k at isFull w ts ss ms vs system times sl) (h : k < g .count + streamCount g) where
-  abbrev s : State
-  s = inv .state
-
   pub loop-next : (u : List Float) (ts' : List FluidFifo) (ss' : List PesScanner) (ms' : List MainBranch) (vs' : List VideoBranch) (system' : SystemChain) (times' : Times) (sl' : Slots) (isFull' : Bool) → isFull' ≡ false
-      → Turned g ready k s u ts' ss' ms' vs' system' times' sl' → Looping g ready (k + 1) (at + g .layout .«packet_size») isFull' u ts' ss' ms' vs' system' times' sl'
+      → Turned g ready k (inv .state) u ts' ss' ms' vs' system' times' sl' → Looping g ready (k + 1) (at + g .layout .«packet_size») isFull' u ts' ss' ms' vs' system' times' sl'
   loop-next u ts' ss' ms' vs' system' times' sl' isFull' f t =
       let e : suc k ≡ k + 1 = omega arith in
       let one : g .layout .«sync_offset» + suc k * g .layout .«packet_size» ≡ g .layout .«sync_offset» + k * g .layout .«packet_size» + g .layout .«packet_size» = omega arith in
@@ -148,12 +167,71 @@ module _ (g : Pass) (ready : Ready g) (k at : ℕ) (isFull : Bool) (w : List Flo
       (record {
         state = t .state;
         now = t .at;
-        going = going-next g k s (streams-counted g ready) h (inv .going) (t .state) (t .step);
+        going = going-next g k (inv .state) (streams-counted g ready) h (inv .going) (t .state) (t .step);
         reached = one-more h (inv .reached) (t .step);
         placed = ap (λ (n : ℕ). n + g .layout .«packet_size») (inv .placed) ∙ sym one;
         not-full = f;
         few = h;
       })
+
+-- null packets that are nobody's, behind one another
+module _ (g : Pass) (ready : Ready g) (isFull : Bool) (w : List Float) (ts : List FluidFifo) (ss : List PesScanner) (ms : List MainBranch) (vs : List VideoBranch) (system : SystemChain) (sl : Slots)
+    (nobody : isNobody (ownerBy (pidsOf (g .config)) 8191) ≡ true) where
+  owned-by-nobody : (o : Owner) → isNobody o ≡ true → o ≡ Owner.Nobody
+  owned-by-nobody (Owner.Stream i) e = absurd (true≢false (sym e))
+  owned-by-nobody Owner.System e = absurd (true≢false (sym e))
+  owned-by-nobody Owner.Nobody e = refl
+
+  nobodys : (pid : ℕ) → 8191 ≡ pid → ownerOf (g .config) pid ≡ Owner.Nobody
+  nobodys pid e = rw (← e) (sym (pids-owner (g .config) 8191) ∙ owned-by-nobody _ nobody)
+
+  abbrev nullMoment : Bool → ℕ → Moment
+  nullMoment bit start = record { end = false; parsed = true; owner = 9; «payload_start» = start; «payload_unit_start» = bit }
+
+  null-turns : (k at : ℕ) (t : Times) (L : Looping g ready k at isFull w ts ss ms vs system t sl) → k < g .count → SameInterval (t .arrival) → IsNull (windowAt (g .recording) at)
+      → Turned g ready k (L .state) w ts ss ms vs system (nullTimes t) sl
+  null-turns k at t L h i x =
+      let header : headerOf (parseOf (packetAt (g .layout) (g .recording) k)) ≡ PacketHeader.Parsed 8191 (x .bit) (x .start) =
+      ap (λ (l : List ℕ). headerOf (parseOf l)) (sym (window-is g k at (L .placed))) ∙ x .header in
+      let q = parsed-packet _ header in
+      let o = nobodys (q .packet .pid) (q .pid-is) in
+      let m = nullMoment (q .packet .«payload_unit_start») (q .packet .«payload_start») in
+      let p : PacketIs g k m = record { packet = q .packet; parse = q .is; moment = rw o refl } in
+      let next : nullTimes t ≡ nextTimes m (nextArrival w (clockFrom g) (g .places) (suc (g .last)) (t .arrival)) t =
+      sym
+      (next-parsed m (nextArrival w (clockFrom g) (g .places) (suc (g .last)) (t .arrival)) t refl refl
+      ∙ rw (within-next w (clockFrom g) (g .places) (suc (g .last)) (t .arrival) i) refl) in
+      nobody-turns g ready k w ts ss ms vs system t (nullTimes t) sl (L .state) m (L .now) next h p o
+
+  pub nulls-loop : {c t : Times} {at₀ k₀ at k : ℕ} → Nulls (g .recording) (g .layout .«packet_size») (g .count) c at₀ k₀ t at k
+      → Looping g ready (k₀ + 1) (at₀ + g .layout .«packet_size») isFull w ts ss ms vs system c sl
+      → Looping g ready (k + 1) (at + g .layout .«packet_size») isFull w ts ss ms vs system t sl
+  nulls-loop no-null L = L
+  nulls-loop (null-more n h i x) L₀ =
+      let L = nulls-loop n L₀ in
+      loop-next g ready _ _ isFull w ts ss ms vs system _ sl L (omega arith) w ts ss ms vs system _ sl isFull (L .not-full) (null-turns _ _ _ L h i x)
+
+module _ (g : Pass) (ready : Ready g) (k at : ℕ) (isFull : Bool) (w : List Float) (ts : List FluidFifo) (ss : List PesScanner) (ms : List MainBranch) (vs : List VideoBranch) (system : SystemChain) (times : Times) (sl : Slots)
+    (inv : Looping g ready k at isFull w ts ss ms vs system times sl) (h : k < g .count + streamCount g) where
+  abbrev s : State
+  s = inv .state
+
+  -- where a step leaves the loop's place and count
+  pub record Moved (at' k' : ℕ) : Type 0 where
+    pub at-few : at' ≤ 2 ^ 33
+    pub forward : k ≤ k'
+    pub inside : k' < g .count + streamCount g
+
+  pub moved-none : (at' k' : ℕ) → at' ≡ at → k' ≡ k → Moved at' k'
+  moved-none at' k' e f = record { at-few = rw e (at-small g ready k at (inv .placed) h); forward = omega arith; inside = omega arith }
+
+  pub moved-skip : {l : List ℕ} {size : ℕ} {c t : Times} {a b : ℕ} → Skips l size (g .count) c at k t a b → (at' k' : ℕ) → at' ≡ a → k' ≡ b → Moved at' k'
+  moved-skip {l} {size} {c} {t} {a} {b} s at' k' e f =
+      record { at-few = rw e (s .at-few); forward = rw f (s .forward); inside = rw f (by-test (ltb k b) refl) }
+    where
+      by-test : (x : Bool) → ltb k b ≡ x → b < g .count + streamCount g
+      by-test true z = omega (arith, s .in-packets (ltb-true k b z))
+      by-test false z = omega (arith, ltb-false k b z)
 
   module _ (window : List ℕ) (m : Moment) (times' : Times) (is-window : window ≡ cond (leb (at + 188) (length (g .recording))) (take 188 (drop at (g .recording))) [])
       (pids : Pids) (is-pids : pids ≡ pidsOf (g .config)) (is-moment : m ≡ momentOf pids window (g .count) k) (n : ℕ) (is-n : n ≡ suc (g .last))
@@ -193,7 +271,20 @@ module _ (g : Pass) (ready : Ready g) (k at : ℕ) (isFull : Bool) (w : List Flo
           → w₂ ≡ w → ts₂ ≡ ts → ss₂ ≡ ss → ms₂ ≡ ms → vs₂ ≡ vs → system₂ ≡ system → slots firsts₂ figures₂ ≡ sl → full₂ ≡ isFull
           → LoopInv g (k + 1) (at + g .layout .«packet_size») full₂ w₂ ts₂ ss₂ ms₂ vs₂ system₂ times' (slots firsts₂ figures₂)
       idle-again w₂ ts₂ ss₂ ms₂ vs₂ system₂ firsts₂ figures₂ full₂ ew et ez em ev es el ef =
-          record { ready = ready; loop = rw (ew, et, ez, em, ev, es, el) (loop-next w ts ss ms vs system times' sl full₂ (ef ∙ inv .not-full) idle-turn) }
+          record { ready = ready; loop = rw (ew, et, ez, em, ev, es, el) (loop-next g ready k at isFull w ts ss ms vs system times sl inv h w ts ss ms vs system times' sl full₂ (ef ∙ inv .not-full) idle-turn) }
+
+      -- with the null packets behind it
+      module _ (isNull : Bool) (is-null : isNull ≡ isNobody (ownerBy pids 8191)) (nobody : isNull ≡ true) where
+        pub skip-again : {t : Times} {at' k' : ℕ} → Skips (g .recording) (g .layout .«packet_size») (g .count) times' at k t at' k'
+            → (w₂ : List Float) (ts₂ : List FluidFifo) (ss₂ : List PesScanner) (ms₂ : List MainBranch) (vs₂ : List VideoBranch) (system₂ : SystemChain) (firsts₂ : List ℕ) (figures₂ : List Float) (full₂ : Bool)
+            → w₂ ≡ w → ts₂ ≡ ts → ss₂ ≡ ss → ms₂ ≡ ms → vs₂ ≡ vs → system₂ ≡ system → slots firsts₂ figures₂ ≡ sl → full₂ ≡ isFull
+            → LoopInv g (k' + 1) (at' + g .layout .«packet_size») full₂ w₂ ts₂ ss₂ ms₂ vs₂ system₂ t (slots firsts₂ figures₂)
+        skip-again x w₂ ts₂ ss₂ ms₂ vs₂ system₂ firsts₂ figures₂ full₂ ew et ez em ev es el ef =
+            record {
+              ready = ready;
+              loop = rw (ew, et, ez, em, ev, es, el)
+                  (nulls-loop g ready full₂ w ts ss ms vs system sl (ap (λ (z : Pids). isNobody (ownerBy z 8191)) (sym is-pids) ∙ sym is-null ∙ nobody) (x .nulls) (loop-next g ready k at isFull w ts ss ms vs system times sl inv h w ts ss ms vs system times' sl full₂ (ef ∙ inv .not-full) idle-turn));
+            }
 
     -- a packet of the system chain
     module _ (eight : m .owner ≡ 8) (system' : SystemChain) (sl' : Slots) (e : system' ≡ systemPushed system (times' .arrival))
@@ -226,7 +317,7 @@ module _ (g : Pass) (ready : Ready g) (k at : ℕ) (isFull : Bool) (w : List Flo
           → w₂ ≡ w → ts₂ ≡ ts → ss₂ ≡ ss → ms₂ ≡ ms → vs₂ ≡ vs → system₂ ≡ system' → slots firsts₂ figures₂ ≡ sl' → full₂ ≡ isFull
           → LoopInv g (k + 1) (at + g .layout .«packet_size») full₂ w₂ ts₂ ss₂ ms₂ vs₂ system₂ times' (slots firsts₂ figures₂)
       system-again w₂ ts₂ ss₂ ms₂ vs₂ system₂ firsts₂ figures₂ full₂ ew et ez em ev es el ef =
-          record { ready = ready; loop = rw (ew, et, ez, em, ev, es, el) (loop-next w ts ss ms vs system' times' sl' full₂ (ef ∙ inv .not-full) system-turn) }
+          record { ready = ready; loop = rw (ew, et, ez, em, ev, es, el) (loop-next g ready k at isFull w ts ss ms vs system times sl inv h w ts ss ms vs system' times' sl' full₂ (ef ∙ inv .not-full) system-turn) }
 
     -- a step of stream i
     module _ (i : ℕ) (owner : i ≡ m .owner) (near : i < 8) (t : FluidFifo) (is-t : t ≡ getD ts i unusedTb) (runs : Runs) (ss' : List PesScanner)
@@ -290,7 +381,7 @@ module _ (g : Pass) (ready : Ready g) (k at : ℕ) (isFull : Bool) (w : List Flo
       -- the loop goes on
       pub stream-again : {u : List Float} {ts' : List FluidFifo} {ms' : List MainBranch} {vs' : List VideoBranch} {stFull : Bool} {sl' : Slots} → StreamTurn u ts' ms' vs' stFull sl' → stFull ≡ false
           → Looping g ready (k + 1) (at + g .layout .«packet_size») stFull u ts' ss' ms' vs' system times' sl'
-      stream-again x e = loop-next _ _ _ _ _ _ _ _ _ e (x .turns e)
+      stream-again x e = loop-next g ready k at isFull w ts ss ms vs system times sl inv h _ _ _ _ _ _ _ _ _ e (x .turns e)
 
       module _ (model : StreamModel) (is-model : model ≡ streamModel (streamAt (g .config) i) (8 * depthOf g * i) (depthOf g)) (u : List Float) (sl' : Slots) (ts' : List FluidFifo) (is-ts : ts' ≡ set ts i (a .tb)) where
         any-turn : (ms' : List MainBranch) (vs' : List VideoBranch) (b : MainBranch) (v : VideoBranch) (stFull : Bool)

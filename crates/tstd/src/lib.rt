@@ -3,6 +3,7 @@ mod clear;
 mod figures;
 mod front;
 mod moment;
+mod nulls;
 mod run;
 mod stream;
 

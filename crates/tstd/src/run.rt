@@ -3,6 +3,7 @@ use crate::front;
 use crate::front::SystemChain;
 use crate::moment;
 use crate::moment::Times;
+use crate::nulls;
 use crate::stream;
 use branch::main_branch::MainBranch;
 use branch::video_branch::VideoBranch;
@@ -43,6 +44,7 @@ pub(crate) fn run(
 {
     let from = 8 * config.queue_depth * config.stream_count;
     let pids = config.pids();
+    let skips = nulls::are_nobodys(pids);
     let models = stream::models(config);
     let mut tbs = stream::tbs(config);
     let s0 = PesScanner::new();
@@ -122,6 +124,12 @@ pub(crate) fn run(
             }
         } else if i == 8 {
             system = front::push_system(system, a, &mut firsts, &mut figures);
+        } else if skips {
+            let s = nulls::skip(times, bytes, layout.packet_size, at, count, k);
+            let t = s.times;
+            times = t;
+            at = s.at;
+            k = s.k;
         }
         at += layout.packet_size;
         k += 1;
