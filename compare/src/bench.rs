@@ -58,21 +58,22 @@ fn made_up(megabytes: usize, videos: u16, audio: bool, queue_depth: usize) -> In
     Input { name: format!("made-up, {megabytes} MB"), bytes, profile: p }
 }
 
-/// Null packets and a PCR every 40 packets: no packet of the streams, whose work is zeroed all the same.
-fn no_stream(megabytes: usize, videos: u16, queue_depth: usize) -> Input {
+/// Packets of one PID that is in neither list, and a PCR every 40 packets: no packet of the streams, whose work is
+/// zeroed all the same.
+fn no_stream(megabytes: usize, videos: u16, queue_depth: usize, pid: u16) -> Input {
     let mut input = made_up(megabytes, videos, false, queue_depth);
     for (k, packet) in input.bytes.chunks_exact_mut(188).enumerate() {
         if k % 40 != 0 {
-            packet.copy_from_slice(&head(8191, false, 1, k as u8));
+            packet.copy_from_slice(&head(pid, false, 1, k as u8));
         }
     }
-    input.name = format!("null packets, {megabytes} MB");
+    input.name = format!("packets of PID {pid}, {megabytes} MB");
     input
 }
 
 /// The same without a PCR: both sides refuse it behind their first pass.
 fn refused(megabytes: usize, videos: u16, queue_depth: usize) -> Input {
-    let mut input = no_stream(megabytes, videos, queue_depth);
+    let mut input = no_stream(megabytes, videos, queue_depth, 8191);
     for packet in input.bytes.chunks_exact_mut(188) {
         packet.copy_from_slice(&head(8191, false, 1, 0));
     }
@@ -164,6 +165,39 @@ fn show(input: &Input, t: &Times) {
     );
 }
 
+/// Least seconds of a plain fill of the lent work.
+fn fill(m: &mut Memory) -> f64 {
+    let mut least = f64::INFINITY;
+    for _ in 0..200 {
+        let start = Instant::now();
+        black_box(m.times.get_mut()).fill(0);
+        black_box(m.places.get_mut()).fill(0);
+        least = least.min(start.elapsed().as_secs_f64());
+    }
+    least
+}
+
+/// Recordings under 1 MB, whose time the zeroing of deep queues outweighs: with it, and less a plain fill of the same work.
+fn shorter(m: &mut Memory, budget: Duration) -> Result<(), String> {
+    println!("  shorter recordings, made up; a call of ours with the zeroing, and less a plain fill:");
+    for (queue_depth, videos) in [(128, 1), (128, 8), (8_192, 1), (8_192, 8)] {
+        for packets in [100, 1_000] {
+            let mut input = made_up(1, videos, videos == 1, queue_depth);
+            input.bytes.truncate(packets * 188);
+            let t = alternate(&input, m, 50, budget)?;
+            let without = t.ours - fill(m);
+            println!(
+                "    {packets} packets: Rust {:.1} µs, ours {:.1} µs, less the fill {:.1} µs ({})",
+                t.rust * 1e6,
+                t.ours * 1e6,
+                without * 1e6,
+                input.profile.about()
+            );
+        }
+    }
+    Ok(())
+}
+
 /// Zeroing apart: the same memory filled by this program, and our call on two packets that it refuses by 5 after it
 /// has zeroed the work.
 fn zeroing(m: &mut Memory) {
@@ -176,12 +210,9 @@ fn zeroing(m: &mut Memory) {
         let needed = p.needed();
         m.prepare(Lengths::exact(needed), 1);
         let words = p.words();
-        let (mut fill, mut call) = (f64::INFINITY, f64::INFINITY);
+        let filled = fill(m);
+        let mut call = f64::INFINITY;
         for _ in 0..200 {
-            let start = Instant::now();
-            black_box(m.times.get_mut()).fill(0);
-            black_box(m.places.get_mut()).fill(0);
-            fill = fill.min(start.elapsed().as_secs_f64());
             let start = Instant::now();
             black_box(ffi::replay(black_box(&two), black_box(&words), m));
             call = call.min(start.elapsed().as_secs_f64());
@@ -189,7 +220,7 @@ fn zeroing(m: &mut Memory) {
         println!(
             "    queue depth {queue_depth}, {streams} streams, clock depth 3000: {} bytes, a plain fill {:.1} µs, our refused call {:.1} µs",
             8 * (needed.times + needed.places),
-            fill * 1e6,
+            filled * 1e6,
             call * 1e6
         );
     }
@@ -207,8 +238,10 @@ pub fn run(quick: bool) -> Result<(), String> {
     }
     inputs.extend(sizes.iter().map(|n| made_up(*n, 8, false, 8_192)));
     for (megabytes, videos) in [(1, 2), (1, 6), (1, 7), (1, 8), (2, 8), (4, 8)] {
-        inputs.push(no_stream(megabytes, videos, 8_192));
+        inputs.push(no_stream(megabytes, videos, 8_192, 8191));
     }
+    inputs.extend([6, 7, 8].map(|videos| no_stream(1, videos, 8_192, 500)));
+    inputs.push(no_stream(2, 8, 8_192, 500));
     inputs.extend([2, 8].map(|videos| refused(1, videos, 8_192)));
     for input in &inputs {
         show(input, &alternate(input, &mut m, 5, budget)?);
@@ -230,6 +263,7 @@ pub fn run(quick: bool) -> Result<(), String> {
         let input = header_only(*sizes.last().unwrap(), stamp, rbx, &name);
         show(&input, &alternate(&input, &mut m, 3, budget)?);
     }
+    shorter(&mut m, budget / 4)?;
     zeroing(&mut m);
     Ok(())
 }
