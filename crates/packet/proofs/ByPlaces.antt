@@ -17,7 +17,7 @@ use Rattle.syntax.specs.TimeStamp.{stamp33}
 use Rattle.syntax.proofs.Bits.{byte, within}
 use Rattle.syntax.proofs.Bytes.{Bytes}
 use Rattle.syntax.proofs.AdaptationField as laws
-use Rattle.packet.specs.AdaptationField.{read, isSet, place, extended, wants, roomOf, dataRoom, extensionRoom, extensionFieldsRoom, extensionEnd, extensionOf, adaptationFieldOf, fieldIn, fieldOf, tcimsbf8}
+use Rattle.packet.specs.AdaptationField.{read, isSet, place, extended, wants, roomOf, dataRoom, extensionRoom, extensionFieldsRoom, extensionEnd, extensionOf, adaptationFieldOf, fieldRoom, tcimsbf8}
 use Rattle.packet.specs.Places.{Flagged, Placed, Extended}
 use Rattle.packet.specs.declared.Room.{Room}
 use Rattle.packet.specs.declared.Places.{Places}
@@ -28,7 +28,6 @@ use Rattle.packet.specs.declared.MaybeLtw.{MaybeLtw}
 use Rattle.packet.specs.declared.MaybePiecewiseRate.{MaybePiecewiseRate}
 use Rattle.packet.specs.declared.MaybeSeamlessSplice.{MaybeSeamlessSplice}
 use Rattle.packet.specs.declared.MaybeExtension.{MaybeExtension}
-use Rattle.packet.specs.declared.AdaptationFieldParse.{AdaptationFieldParse}
 use Rattle.packet.proofs.Fields as fields
 
 -- a choice by another test, and what it gives where the test holds
@@ -345,48 +344,53 @@ module _ (s : List ℕ) (h : Bytes s) where
   length-is = laws.adaptation-field-length s ∙ byte s 0 (h 0)
 
   -- a field of length 0 has no flags
-  pub empty-field : getD s 0 0 ≡ 0
-      → fieldOf s
-      ≡ AdaptationFieldParse.Field
-      (record {
-        length = 0;
-        «discontinuity_indicator» = false;
-        «random_access_indicator» = false;
-        «elementary_stream_priority_indicator» = false;
-        pcr = MaybeClockReference.Absent;
-        opcr = MaybeClockReference.Absent;
-        «splice_countdown» = MaybeSpliceCountdown.Absent;
-        «transport_private_data» = MaybePrivateData.Absent;
-        «adaptation_field_extension» = MaybeExtension.Absent;
-      })
-  unfolding fieldOf fieldIn adaptationFieldOf
-  empty-field z =
-      let zero-length : read s "adaptation_field_length" ≡ 0 = length-is ∙ z in
-      let short : hasFlags (field table-2-6 s) ≡ false = rw zero-length in
-      let room : roomOf s ≡ Room.Enough =
-      no-room (fields.no-pcr s short) (fields.no-opcr s short) (fields.no-splicing s short) (fields.no-private s short) (fields.no-extension s short) in
-      rw (
-        no-wants (length s) 0 2 (ltb 0 (read s "adaptation_field_length")) (roomOf s) short,
-        room,
-        zero-length,
-        fields.no-discontinuity s short,
-        fields.no-random-access s short,
-        fields.no-priority s short,
-        fields.no-pcr s short,
-        fields.no-opcr s short,
-        fields.no-splicing s short,
-        fields.no-private s short,
-        fields.no-extension s short,
-      )
+  module _ (z : getD s 0 0 ≡ 0) where
+    zero-length : read s "adaptation_field_length" ≡ 0
+    zero-length = length-is ∙ z
+
+    short : hasFlags (field table-2-6 s) ≡ false
+    short = rw zero-length
+
+    pub empty-field-room : fieldRoom s ≡ Room.Enough
+    unfolding fieldRoom
+    empty-field-room =
+        no-wants (length s) 0 2 (ltb 0 (read s "adaptation_field_length")) (roomOf s) short
+        ∙ no-room (fields.no-pcr s short) (fields.no-opcr s short) (fields.no-splicing s short) (fields.no-private s short) (fields.no-extension s short)
+
+    pub empty-field : adaptationFieldOf s
+        ≡ record {
+          length = 0;
+          «discontinuity_indicator» = false;
+          «random_access_indicator» = false;
+          «elementary_stream_priority_indicator» = false;
+          pcr = MaybeClockReference.Absent;
+          opcr = MaybeClockReference.Absent;
+          «splice_countdown» = MaybeSpliceCountdown.Absent;
+          «transport_private_data» = MaybePrivateData.Absent;
+          «adaptation_field_extension» = MaybeExtension.Absent;
+        }
+    unfolding adaptationFieldOf
+    empty-field =
+        rw (
+          zero-length,
+          fields.no-discontinuity s short,
+          fields.no-random-access s short,
+          fields.no-priority s short,
+          fields.no-pcr s short,
+          fields.no-opcr s short,
+          fields.no-splicing s short,
+          fields.no-private s short,
+          fields.no-extension s short,
+        )
 
   module _ (some : 0 < getD s 0 0) where
     long : ltb 0 (read s "adaptation_field_length") ≡ true
     long = rw length-is (lt-ltb 0 (getD s 0 0) some)
 
-    pub short-field : length s < 2 → fieldOf s ≡ AdaptationFieldParse.Truncated (length s) 2
-    unfolding fieldOf fieldIn wants
-    short-field l = rw (long, lt-ltb (length s) 2 l, sub-zero (length s))
+    pub short-field-room : length s < 2 → fieldRoom s ≡ Room.Truncated (length s) 2
+    unfolding fieldRoom wants
+    short-field-room l = rw (long, lt-ltb (length s) 2 l, sub-zero (length s))
 
-    pub field-in : 2 ≤ length s → fieldOf s ≡ fieldIn s (roomOf s)
-    unfolding fieldOf wants
-    field-in l = rw (long, le-ltb (length s) 2 l)
+    pub flagged-field-room : 2 ≤ length s → fieldRoom s ≡ roomOf s
+    unfolding fieldRoom wants
+    flagged-field-room l = rw (long, le-ltb (length s) 2 l)

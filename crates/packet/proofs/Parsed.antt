@@ -5,7 +5,6 @@ use mathlib.Core.Path.{_≡_, refl, sym, ap, subst, _∙_}
 use mathlib.Core.Bool.{Bool, true, false, cond}
 use mathlib.Core.List.{List}
 use native.Mathlib.Omega.{arith}
-use lib.Dec.{ltb}
 use lib.ListN.{length, take, drop}
 use borrow.Author.Tests.{ltb-false}
 use Rattle.syntax.specs.Table.{field}
@@ -21,7 +20,7 @@ use Rattle.packet.specs.declared.AdaptationFieldParse.{AdaptationFieldPa
 use Rattle.packet.specs.declared.Room.{Room}
 use Rattle.packet.specs.declared.TsPacket.{TsPacket}
 use Rattle.packet.specs.declared.Parse.{Parse}
-use Rattle.packet.specs.AdaptationField.{read, isSet, wants, roomOf, pcrOf, opcrOf, adaptationFieldOf, fieldIn, fieldOf, pcrTicks}
+use Rattle.packet.specs.AdaptationField.{isSet, pcrOf, opcrOf, adaptationFieldOf, fieldIn, fieldRoom, fieldOf, pcrTicks}
 use Rattle.packet.specs.Packet.{hasPayload, packetOf, withField, fieldLength, parseOf}
 use Rattle.packet.proofs.Cases.{Way, way, is-truncated, is-bad-sync, is-bare, is-overlong, is-fitting, truncated, bad-sync, bare, overlong, fitting}
 
@@ -35,7 +34,7 @@ in-room raw (Room.Truncated have need) f p =
 
 field-values : (raw : List ℕ) (f : AdaptationField) → fieldOf raw ≡ AdaptationFieldParse.Field f → f ≡ adaptationFieldOf raw
 unfolding fieldOf
-field-values raw f e = in-room raw (wants (length raw) (ltb 0 (read raw "adaptation_field_length")) 0 2 (roomOf raw)) f e
+field-values raw f e = in-room raw (fieldRoom raw) f e
 
 -- a packet that parses: without an adaptation field, or with one that fits
 pub data Shape (w : List ℕ) (h : TsPacket) : Type 0 where

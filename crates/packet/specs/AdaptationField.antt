@@ -118,5 +118,8 @@ module _ (raw : List ℕ) where
   fieldIn (Room.Truncated have need) = AdaptationFieldParse.Truncated have need
 
   -- a field of length 0 has no flags, so that no part is there; any other wants its byte of flags
+  unfoldable pub fieldRoom : Room
+  fieldRoom = wants (length raw) (ltb 0 (read "adaptation_field_length")) 0 2 roomOf
+
   unfoldable pub fieldOf : AdaptationFieldParse
-  fieldOf = fieldIn (wants (length raw) (ltb 0 (read "adaptation_field_length")) 0 2 roomOf)
+  fieldOf = fieldIn fieldRoom

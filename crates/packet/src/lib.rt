@@ -7,7 +7,7 @@ ghost use Prim.Native.Nat.{_+_, _-_, _*_, _/_, _%_, _^_, _≤_, _<_, min};
 ghost use lib.Dec.{eqb, ltb, leb};
 ghost use lib.ListN.{length, getD, take, drop};
 ghost use Rattle.syntax.specs.Bits.{bits};
-ghost use Rattle.packet.specs.AdaptationField.{fieldOf, isSet, roomOf, dataRoom, extensionRoom, extensionFieldsRoom, adaptationFieldOf, extensionOf, tcimsbf8};
+ghost use Rattle.packet.specs.AdaptationField.{fieldOf, fieldRoom, isSet, roomOf, dataRoom, extensionRoom, extensionFieldsRoom, adaptationFieldOf, extensionOf, tcimsbf8};
 ghost use Rattle.packet.specs.Places.{Flagged, Placed, Extended};
 ghost use Rattle.packet.specs.Packet.{parseOf, packetOf, payloadOf, privateDataOf};
 ghost use Rattle.packet.specs.Layout.{onGrid, layoutOf, windowOf};
@@ -513,13 +513,31 @@ fn flagged_field(raw: &[u8], f: u8, p: Places) -> AdaptationField
     }
 }
 
-// The adaptation field that is the whole of `raw`, its length byte first.
-fn parse_adaptation_field(raw: &[u8]) -> AdaptationFieldParse
-    requires { ⌜ 1 ≤ length (now raw) ⌝ }
-    ensures { λ r. ⌜ r ≡ fieldOf (now (raw .entry)) ⌝ }
+// Whether the adaptation field that is the whole of `raw`, its length byte first, holds every part that it flags.
+// Ruled out: room for a PCR in a field of length 1; no room in a field of length 0.
+pub fn adaptation_field_room(raw: &[u8]) -> Room
+    ensures { λ r. ⌜ r ≡ fieldRoom (now (raw .entry)) ⌝ }
 {
-    if raw[0] == 0 {
-        return AdaptationFieldParse::Field(AdaptationField {
+    if byte_or_zero(raw, 0) == 0 {
+        return Room::Enough;
+    }
+    if raw.len() < 2 {
+        return Room::Truncated {
+            have: raw.len(),
+            need: 2,
+        };
+    }
+    let f = raw[1];
+    let p = places_of(raw, f);
+    field_room(raw, f, p)
+}
+
+// The values of an adaptation field; one of length 0 has no flags.
+fn adaptation_field_of(raw: &[u8]) -> AdaptationField
+    ensures { λ r. ⌜ r ≡ adaptationFieldOf (now (raw .entry)) ⌝ }
+{
+    if byte_or_zero(raw, 0) == 0 {
+        return AdaptationField {
             length: 0,
             discontinuity_indicator: false,
             random_access_indicator: false,
@@ -529,19 +547,20 @@ fn parse_adaptation_field(raw: &[u8]) -> AdaptationFieldParse
             splice_countdown: MaybeSpliceCountdown::Absent,
             transport_private_data: MaybePrivateData::Absent,
             adaptation_field_extension: MaybeExtension::Absent,
-        });
-    }
-    if raw.len() < 2 {
-        return AdaptationFieldParse::Truncated {
-            have: raw.len(),
-            need: 2,
         };
     }
-    let f = raw[1];
+    let f = byte_or_zero(raw, 1);
     let p = places_of(raw, f);
-    match field_room(raw, f, p) {
+    flagged_field(raw, f, p)
+}
+
+// The adaptation field that is the whole of `raw`, its length byte first.
+fn parse_adaptation_field(raw: &[u8]) -> AdaptationFieldParse
+    ensures { λ r. ⌜ r ≡ fieldOf (now (raw .entry)) ⌝ }
+{
+    match adaptation_field_room(raw) {
         Room::Truncated { have, need } => AdaptationFieldParse::Truncated { have, need },
-        Room::Enough => AdaptationFieldParse::Field(flagged_field(raw, f, p)),
+        Room::Enough => AdaptationFieldParse::Field(adaptation_field_of(raw)),
     }
 }
 

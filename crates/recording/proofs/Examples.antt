@@ -8,7 +8,7 @@ use Rattle.syntax.specs.Packet.{table-2-2}
 use Rattle.syntax.specs.AdaptationField.{table-2-6}
 use Rattle.syntax.specs.Pes.{table-2-21}
 use Rattle.pes.specs.StreamId.{hasOptionalHeader}
-use Rattle.packet.specs.AdaptationField.{fieldOf, fieldIn, wants, roomOf, dataRoom, extensionRoom, extensionFieldsRoom, adaptationFieldOf}
+use Rattle.packet.specs.AdaptationField.{fieldOf, fieldIn, fieldRoom, wants, roomOf, dataRoom, extensionRoom, extensionFieldsRoom, adaptationFieldOf}
 use Rattle.packet.specs.Packet.{packetOf, withField, parseOf, payloadOf}
 use Rattle.packet.specs.Layout.{onGrid, layoutOf, windowOf}
 use Rattle.scanner.specs.Unit.{contentBeginBy, contentBegin}
@@ -17,5 +17,5 @@ use Rattle.recording.specs.Content.{contentIn, content, contentBy}
 use Rattle.recording.specs.Examples.{examples, allHold}
 
 pub all-hold : allHold examples ≡ true
-unfolding contentIn content contentBy isStream contentBeginBy contentBegin onGrid layoutOf windowOf packetOf withField parseOf payloadOf hasOptionalHeader field fieldsFrom offset offsetFrom table-2-2 table-2-6 table-2-21 bit bits fieldOf fieldIn wants roomOf dataRoom extensionRoom extensionFieldsRoom adaptationFieldOf
+unfolding contentIn content contentBy isStream contentBeginBy contentBegin onGrid layoutOf windowOf packetOf withField parseOf payloadOf hasOptionalHeader field fieldsFrom offset offsetFrom table-2-2 table-2-6 table-2-21 bit bits fieldOf fieldIn fieldRoom wants roomOf dataRoom extensionRoom extensionFieldsRoom adaptationFieldOf
 all-hold = refl
