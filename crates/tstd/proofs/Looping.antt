@@ -15,7 +15,7 @@ use Rattle.error.specs.declared.Refusal.{Refusal}
 use Rattle.packet.specs.Packet.{parseOf}
 use Rattle.header.specs.declared.PacketHeader.{PacketHeader}
 use Rattle.header.specs.Header.{headerOf}
-use Rattle.header.proofs.Headers.{parsed-packet}
+use Rattle.header.proofs.Headers.{parsed-packet, unparsed-fails}
 use Rattle.recording.specs.Read.{packetAt}
 use Rattle.arrival.specs.Work.{startOfArrival, nextArrival, holds}
 use Rattle.arrival.proofs.Covering.{starts}
@@ -32,7 +32,7 @@ use Rattle.branch.proofs.Rings.{next-multiple, outside-refl, outside-then, outs
 use Rattle.profile.specs.declared.owner.Owner.{Owner}
 use Rattle.profile.specs.Config.{streamsOf, unusedStream}
 use Rattle.profile.specs.declared.owner.Pids.{Pids}
-use Rattle.profile.specs.Owner.{ownerOf, ownerBy, pidsOf}
+use Rattle.profile.specs.Owner.{ownerOf, pidsOf}
 use Rattle.profile.proofs.Ownership.{owner-slot, pids-owner}
 use Rattle.summary.specs.Summary.{emptySlots, notedFound}
 use Rattle.fifo.specs.declared.FluidFifo.{FluidFifo}
@@ -49,15 +49,15 @@ use Rattle.tstd.specs.declared.front.SystemChain.{SystemChain}
 use Rattle.tstd.specs.declared.stream.StreamModel.{StreamModel}
 use Rattle.tstd.specs.declared.run.Ran.{Ran as RanState}
 use Rattle.tstd.specs.InWork.{streamModel, unusedTb, TbsOf}
-use Rattle.tstd.specs.Moments.{ownerIndex, momentOf, startTimes, nextTimes, BufferOf, FrontOf, newSystem, systemRun, systemPushed}
-use Rattle.tstd.specs.NullPackets.{isNobody, IsNull, SameInterval, nullTimes, windowAt, Nulls, no-null, null-more, Skips}
+use Rattle.tstd.specs.Moments.{ownerIndex, packetMoment, momentOf, startTimes, nextTimes, BufferOf, FrontOf, newSystem, systemRun, systemPushed}
+use Rattle.tstd.specs.Skips.{FreeOf, IsFree, IsUnparsed, SameInterval, freeTimes, unparsedTimes, windowAt, Passing, no-more, one-free, one-unparsed, Skips}
 use Rattle.tstd.specs.Run.{Pass, streamCount, depthOf, clockFrom, Ready, whole, Reached, before-all, one-more, At, RanTo}
 use Rattle.tstd.proofs.ChainIs.{new-is, StepIs, main-steps, video-steps}
 use Rattle.tstd.proofs.Going.{Going, going-starts, going-next, step-refused, going-done}
 use Rattle.tstd.proofs.Steps.{PacketIs, MomentIs, at-end, at-unparsed, at-packet, moment-is, window-is, count-few, streams-counted, stream-used}
 use Rattle.tstd.proofs.Turns.{Turned, Moves, Replaced, replaced-set, replaced-none, stream-full, stream-turns}
-use Rattle.tstd.proofs.Moments.{next-parsed}
-use Rattle.tstd.proofs.NullPackets.{within-next}
+use Rattle.tstd.proofs.Moments.{next-parsed, next-unparsed}
+use Rattle.tstd.proofs.Skipping.{within-next}
 use Rattle.tstd.proofs.Scanned.{Scanned, front-scanned}
 use Rattle.tstd.proofs.Moves.{packet-moves, system-turns, nobody-turns, unparsed-turns, end-moves}
 
@@ -174,42 +174,49 @@ module _ (g : Pass) (ready : Ready g) (k at : ℕ) (isFull : Bool) (w : List Flo
         few = h;
       })
 
--- null packets that are nobody's, behind one another
-module _ (g : Pass) (ready : Ready g) (isFull : Bool) (w : List Float) (ts : List FluidFifo) (ss : List PesScanner) (ms : List MainBranch) (vs : List VideoBranch) (system : SystemChain) (sl : Slots)
-    (nobody : isNobody (ownerBy (pidsOf (g .config)) 8191) ≡ true) where
-  owned-by-nobody : (o : Owner) → isNobody o ≡ true → o ≡ Owner.Nobody
-  owned-by-nobody (Owner.Stream i) e = absurd (true≢false (sym e))
-  owned-by-nobody Owner.System e = absurd (true≢false (sym e))
-  owned-by-nobody Owner.Nobody e = refl
+-- packets that no chain takes, behind one another
+module _ (g : Pass) (ready : Ready g) (isFull : Bool) (w : List Float) (ts : List FluidFifo) (ss : List PesScanner) (ms : List MainBranch) (vs : List VideoBranch) (system : SystemChain) (sl : Slots) (free : List Bool)
+    (is-free : FreeOf (pidsOf (g .config)) free) where
+  header-at : (k at : ℕ) {t : Times} (L : Looping g ready k at isFull w ts ss ms vs system t sl) (x : PacketHeader) → headerOf (parseOf (windowAt (g .recording) at)) ≡ x
+      → headerOf (parseOf (packetAt (g .layout) (g .recording) k)) ≡ x
+  header-at k at L x e = ap (λ (l : List ℕ). headerOf (parseOf l)) (sym (window-is g k at (L .placed))) ∙ e
 
-  nobodys : (pid : ℕ) → 8191 ≡ pid → ownerOf (g .config) pid ≡ Owner.Nobody
-  nobodys pid e = rw (← e) (sym (pids-owner (g .config) 8191) ∙ owned-by-nobody _ nobody)
+  abbrev freeMoment : Bool → ℕ → Moment
+  freeMoment bit start = record { end = false; parsed = true; owner = 9; «payload_start» = start; «payload_unit_start» = bit }
 
-  abbrev nullMoment : Bool → ℕ → Moment
-  nullMoment bit start = record { end = false; parsed = true; owner = 9; «payload_start» = start; «payload_unit_start» = bit }
-
-  null-turns : (k at : ℕ) (t : Times) (L : Looping g ready k at isFull w ts ss ms vs system t sl) → k < g .count → SameInterval (t .arrival) → IsNull (windowAt (g .recording) at)
-      → Turned g ready k (L .state) w ts ss ms vs system (nullTimes t) sl
-  null-turns k at t L h i x =
-      let header : headerOf (parseOf (packetAt (g .layout) (g .recording) k)) ≡ PacketHeader.Parsed 8191 (x .bit) (x .start) =
-      ap (λ (l : List ℕ). headerOf (parseOf l)) (sym (window-is g k at (L .placed))) ∙ x .header in
-      let q = parsed-packet _ header in
-      let o = nobodys (q .packet .pid) (q .pid-is) in
-      let m = nullMoment (q .packet .«payload_unit_start») (q .packet .«payload_start») in
+  free-turns : (k at : ℕ) (t : Times) (L : Looping g ready k at isFull w ts ss ms vs system t sl) → k < g .count → SameInterval (t .arrival) → IsFree free (windowAt (g .recording) at)
+      → Turned g ready k (L .state) w ts ss ms vs system (freeTimes t) sl
+  free-turns k at t L h i x =
+      let q = parsed-packet _ (header-at k at L _ (x .header)) in
+      let o : ownerOf (g .config) (q .packet .pid) ≡ Owner.Nobody = rw (← q .pid-is) (sym (pids-owner (g .config) (x .pid)) ∙ is-free .nobodys (x .pid) (x .small) (x .nobodys)) in
+      let m = freeMoment (q .packet .«payload_unit_start») (q .packet .«payload_start») in
       let p : PacketIs g k m = record { packet = q .packet; parse = q .is; moment = rw o refl } in
-      let next : nullTimes t ≡ nextTimes m (nextArrival w (clockFrom g) (g .places) (suc (g .last)) (t .arrival)) t =
+      let next : freeTimes t ≡ nextTimes m (nextArrival w (clockFrom g) (g .places) (suc (g .last)) (t .arrival)) t =
       sym
       (next-parsed m (nextArrival w (clockFrom g) (g .places) (suc (g .last)) (t .arrival)) t refl refl
       ∙ rw (within-next w (clockFrom g) (g .places) (suc (g .last)) (t .arrival) i) refl) in
-      nobody-turns g ready k w ts ss ms vs system t (nullTimes t) sl (L .state) m (L .now) next h p o
+      nobody-turns g ready k w ts ss ms vs system t (freeTimes t) sl (L .state) m (L .now) next h p o
 
-  pub nulls-loop : {c t : Times} {at₀ k₀ at k : ℕ} → Nulls (g .recording) (g .layout .«packet_size») (g .count) c at₀ k₀ t at k
+  unparsed-turn : (k at : ℕ) (t : Times) (L : Looping g ready k at isFull w ts ss ms vs system t sl) → k < g .count → SameInterval (t .arrival) → IsUnparsed (windowAt (g .recording) at)
+      → Turned g ready k (L .state) w ts ss ms vs system (unparsedTimes t) sl
+  unparsed-turn k at t L h i x =
+      let m = packetMoment (pidsOf (g .config)) PacketHeader.Unparsed in
+      let next : unparsedTimes t ≡ nextTimes m (nextArrival w (clockFrom g) (g .places) (suc (g .last)) (t .arrival)) t =
+      sym
+      (next-unparsed m (nextArrival w (clockFrom g) (g .places) (suc (g .last)) (t .arrival)) t refl refl
+      ∙ rw (within-next w (clockFrom g) (g .places) (suc (g .last)) (t .arrival) i) refl) in
+      unparsed-turns g ready k w ts ss ms vs system t (unparsedTimes t) sl (L .state) m (L .now) next h (unparsed-fails _ (header-at k at L _ (x .header))) refl refl
+
+  pub skips-loop : {c t : Times} {at₀ k₀ at k : ℕ} → Passing (g .recording) (g .layout .«packet_size») (g .count) free c at₀ k₀ t at k
       → Looping g ready (k₀ + 1) (at₀ + g .layout .«packet_size») isFull w ts ss ms vs system c sl
       → Looping g ready (k + 1) (at + g .layout .«packet_size») isFull w ts ss ms vs system t sl
-  nulls-loop no-null L = L
-  nulls-loop (null-more n h i x) L₀ =
-      let L = nulls-loop n L₀ in
-      loop-next g ready _ _ isFull w ts ss ms vs system _ sl L (omega arith) w ts ss ms vs system _ sl isFull (L .not-full) (null-turns _ _ _ L h i x)
+  skips-loop no-more L = L
+  skips-loop (one-free n h i x) L₀ =
+      let L = skips-loop n L₀ in
+      loop-next g ready _ _ isFull w ts ss ms vs system _ sl L (omega arith) w ts ss ms vs system _ sl isFull (L .not-full) (free-turns _ _ _ L h i x)
+  skips-loop (one-unparsed n h i x) L₀ =
+      let L = skips-loop n L₀ in
+      loop-next g ready _ _ isFull w ts ss ms vs system _ sl L (omega arith) w ts ss ms vs system _ sl isFull (L .not-full) (unparsed-turn _ _ _ L h i x)
 
 module _ (g : Pass) (ready : Ready g) (k at : ℕ) (isFull : Bool) (w : List Float) (ts : List FluidFifo) (ss : List PesScanner) (ms : List MainBranch) (vs : List VideoBranch) (system : SystemChain) (times : Times) (sl : Slots)
     (inv : Looping g ready k at isFull w ts ss ms vs system times sl) (h : k < g .count + streamCount g) where
@@ -225,8 +232,8 @@ module _ (g : Pass) (ready : Ready g) (k at : ℕ) (isFull : Bool) (w : List Flo
   pub moved-none : (at' k' : ℕ) → at' ≡ at → k' ≡ k → Moved at' k'
   moved-none at' k' e f = record { at-few = rw e (at-small g ready k at (inv .placed) h); forward = omega arith; inside = omega arith }
 
-  pub moved-skip : {l : List ℕ} {size : ℕ} {c t : Times} {a b : ℕ} → Skips l size (g .count) c at k t a b → (at' k' : ℕ) → at' ≡ a → k' ≡ b → Moved at' k'
-  moved-skip {l} {size} {c} {t} {a} {b} s at' k' e f =
+  pub moved-skip : {l : List ℕ} {size : ℕ} {free : List Bool} {c t : Times} {a b : ℕ} → Skips l size (g .count) free c at k t a b → (at' k' : ℕ) → at' ≡ a → k' ≡ b → Moved at' k'
+  moved-skip {l} {size} {free} {c} {t} {a} {b} s at' k' e f =
       record { at-few = rw e (s .at-few); forward = rw f (s .forward); inside = rw f (by-test (ltb k b) refl) }
     where
       by-test : (x : Bool) → ltb k b ≡ x → b < g .count + streamCount g
@@ -267,15 +274,9 @@ module _ (g : Pass) (ready : Ready g) (k at : ℕ) (isFull : Bool) (w : List Flo
       idle-turn : Turned g ready k s w ts ss ms vs system times' sl
       idle-turn = by-moment moment
 
-      pub idle-again : (w₂ : List Float) (ts₂ : List FluidFifo) (ss₂ : List PesScanner) (ms₂ : List MainBranch) (vs₂ : List VideoBranch) (system₂ : SystemChain) (firsts₂ : List ℕ) (figures₂ : List Float) (full₂ : Bool)
-          → w₂ ≡ w → ts₂ ≡ ts → ss₂ ≡ ss → ms₂ ≡ ms → vs₂ ≡ vs → system₂ ≡ system → slots firsts₂ figures₂ ≡ sl → full₂ ≡ isFull
-          → LoopInv g (k + 1) (at + g .layout .«packet_size») full₂ w₂ ts₂ ss₂ ms₂ vs₂ system₂ times' (slots firsts₂ figures₂)
-      idle-again w₂ ts₂ ss₂ ms₂ vs₂ system₂ firsts₂ figures₂ full₂ ew et ez em ev es el ef =
-          record { ready = ready; loop = rw (ew, et, ez, em, ev, es, el) (loop-next g ready k at isFull w ts ss ms vs system times sl inv h w ts ss ms vs system times' sl full₂ (ef ∙ inv .not-full) idle-turn) }
-
-      -- with the null packets behind it
-      module _ (isNull : Bool) (is-null : isNull ≡ isNobody (ownerBy pids 8191)) (nobody : isNull ≡ true) where
-        pub skip-again : {t : Times} {at' k' : ℕ} → Skips (g .recording) (g .layout .«packet_size») (g .count) times' at k t at' k'
+      -- with the packets behind it that no chain takes
+      module _ (free : List Bool) (is-free : FreeOf pids free) where
+        pub skip-again : {t : Times} {at' k' : ℕ} → Skips (g .recording) (g .layout .«packet_size») (g .count) free times' at k t at' k'
             → (w₂ : List Float) (ts₂ : List FluidFifo) (ss₂ : List PesScanner) (ms₂ : List MainBranch) (vs₂ : List VideoBranch) (system₂ : SystemChain) (firsts₂ : List ℕ) (figures₂ : List Float) (full₂ : Bool)
             → w₂ ≡ w → ts₂ ≡ ts → ss₂ ≡ ss → ms₂ ≡ ms → vs₂ ≡ vs → system₂ ≡ system → slots firsts₂ figures₂ ≡ sl → full₂ ≡ isFull
             → LoopInv g (k' + 1) (at' + g .layout .«packet_size») full₂ w₂ ts₂ ss₂ ms₂ vs₂ system₂ t (slots firsts₂ figures₂)
@@ -283,7 +284,7 @@ module _ (g : Pass) (ready : Ready g) (k at : ℕ) (isFull : Bool) (w : List Flo
             record {
               ready = ready;
               loop = rw (ew, et, ez, em, ev, es, el)
-                  (nulls-loop g ready full₂ w ts ss ms vs system sl (ap (λ (z : Pids). isNobody (ownerBy z 8191)) (sym is-pids) ∙ sym is-null ∙ nobody) (x .nulls) (loop-next g ready k at isFull w ts ss ms vs system times sl inv h w ts ss ms vs system times' sl full₂ (ef ∙ inv .not-full) idle-turn));
+                  (skips-loop g ready full₂ w ts ss ms vs system sl free (rw (← is-pids) is-free) (x .passing) (loop-next g ready k at isFull w ts ss ms vs system times sl inv h w ts ss ms vs system times' sl full₂ (ef ∙ inv .not-full) idle-turn));
             }
 
     -- a packet of the system chain

@@ -2,7 +2,7 @@
 pub mod Demands
 pub mod InWork
 pub mod Moments
-pub mod NullPackets
+pub mod Skips
 pub mod Rest
 pub mod Run
 pub mod Figures

@@ -3,8 +3,8 @@ mod clear;
 mod figures;
 mod front;
 mod moment;
-mod nulls;
 mod run;
+mod skip;
 mod stream;
 
 use answer::Answer;

@@ -3,7 +3,7 @@ use crate::front;
 use crate::front::SystemChain;
 use crate::moment;
 use crate::moment::Times;
-use crate::nulls;
+use crate::skip;
 use crate::stream;
 use branch::main_branch::MainBranch;
 use branch::video_branch::VideoBranch;
@@ -44,7 +44,7 @@ pub(crate) fn run(
 {
     let from = 8 * config.queue_depth * config.stream_count;
     let pids = config.pids();
-    let skips = nulls::are_nobodys(pids);
+    let free = skip::free_pids(pids);
     let models = stream::models(config);
     let mut tbs = stream::tbs(config);
     let s0 = PesScanner::new();
@@ -124,8 +124,8 @@ pub(crate) fn run(
             }
         } else if i == 8 {
             system = front::push_system(system, a, &mut firsts, &mut figures);
-        } else if skips {
-            let s = nulls::skip(times, bytes, layout.packet_size, at, count, k);
+        } else {
+            let s = skip::skip(times, &free, bytes, layout.packet_size, at, count, k);
             let t = s.times;
             times = t;
             at = s.at;

@@ -16,7 +16,7 @@ use Rattle.events.specs.Slots.{slots}
 use Rattle.tstd.specs.Run.{passOf, RanTo}
 use Rattle.tstd.proofs.Steps.{count-few}
 use Rattle.tstd.proofs.Scanned.{scanned-fed, scanned-kept}
-use Rattle.tstd.proofs.Looping.{LoopInv, loop-starts, idle-again, system-again, main-again, video-again, main-refuses, video-refuses, loop-ends, at-small, Moved, moved-none, moved-skip, skip-again, loop-as}
+use Rattle.tstd.proofs.Looping.{LoopInv, loop-starts, system-again, main-again, video-again, main-refuses, video-refuses, loop-ends, at-small, Moved, moved-none, moved-skip, skip-again, loop-as}
 use Rattle.tstd.proofs.run.run.Statement.{statement}
 use Rattle.tstd.proofs.run.run.Tie as tie
 
@@ -24,11 +24,11 @@ one-more : (n : ℕ) → 0 < n → n ≡ suc (n - 1)
 one-more n h = omega arith
 
 abbrev Inv-loop : tie.InvT-loop
-Inv-loop config bytes layout count work₀ places intervals from pids skips models tbs₀ scanners₀ mains₀ videos₀ system₀ firsts₀ figures₀ times₀ at₀ full₀ owner₀ k₀ work tbs scanners mains videos system firsts figures times at full owner k =
+Inv-loop config bytes layout count work₀ places intervals from pids free models tbs₀ scanners₀ mains₀ videos₀ system₀ firsts₀ figures₀ times₀ at₀ full₀ owner₀ k₀ work tbs scanners mains videos system firsts figures times at full owner k =
     LoopInv (passOf config bytes layout count work₀ places intervals) k at full work tbs scanners mains videos system times (slots firsts figures)
 
 abbrev μ-loop : tie.MeasureT-loop
-μ-loop config bytes layout count work₀ places intervals from pids skips models tbs₀ scanners₀ mains₀ videos₀ system₀ firsts₀ figures₀ times₀ at₀ full₀ owner₀ k₀ work tbs scanners mains videos system firsts figures times at full owner k =
+μ-loop config bytes layout count work₀ places intervals from pids free models tbs₀ scanners₀ mains₀ videos₀ system₀ firsts₀ figures₀ times₀ at₀ full₀ owner₀ k₀ work tbs scanners mains videos system firsts figures times at full owner k =
     count + config .«stream_count» - k
 
 mul-from : tie.Need-mul-from Inv-loop μ-loop
@@ -40,8 +40,8 @@ mul-from-2 c = omega (arith, mul-le-mul {n₁ = 8 * c .before .before .before .b
 pids-requires : tie.Need-pids-requires Inv-loop μ-loop
 pids-requires c κs = search needs
 
-are-nobodys-requires : tie.Need-are-nobodys-requires Inv-loop μ-loop
-are-nobodys-requires c κs = search needs
+free-pids-requires : tie.Need-free-pids-requires Inv-loop μ-loop
+free-pids-requires c κs = search needs
 
 models-requires : tie.Need-models-requires Inv-loop μ-loop
 models-requires c κs = search needs
@@ -204,7 +204,7 @@ moved c =
     ⊎-elim (λ w. moved-none _ (c .before .before .before .before .before .before .before .before .loop .inv .ready) _ _ _ _ _ _ _ _ _ _ _ (c .before .before .before .before .before .before .before .before .loop .inv .loop) (c .before .before .before .before .before .before .if1 .taken) _ _ (w .23) (w .25))
     (λ z.
     ⊎-elim (λ w. moved-none _ (c .before .before .before .before .before .before .before .before .loop .inv .ready) _ _ _ _ _ _ _ _ _ _ _ (c .before .before .before .before .before .before .before .before .loop .inv .loop) (c .before .before .before .before .before .before .if1 .taken) _ _ (w .14) (w .16))
-    (λ y. ⊎-elim (λ w. moved-skip _ (c .before .before .before .before .before .before .before .before .loop .inv .ready) _ _ _ _ _ _ _ _ _ _ _ (c .before .before .before .before .before .before .before .before .loop .inv .loop) (c .before .before .before .before .before .before .if1 .taken) (w .3 .ensures) _ _ (w .14) (w .16)) (λ w. moved-none _ (c .before .before .before .before .before .before .before .before .loop .inv .ready) _ _ _ _ _ _ _ _ _ _ _ (c .before .before .before .before .before .before .before .before .loop .inv .loop) (c .before .before .before .before .before .before .if1 .taken) _ _ (w .12) (w .14)) y)
+    (λ w. moved-skip _ (c .before .before .before .before .before .before .before .before .loop .inv .ready) _ _ _ _ _ _ _ _ _ _ _ (c .before .before .before .before .before .before .before .before .loop .inv .loop) (c .before .before .before .before .before .before .if1 .taken) (w .3 .ensures) _ _ (w .14) (w .16))
     z)
     (c .if2 .came)
 
@@ -228,11 +228,7 @@ loop-again c =
     (λ z.
     ⊎-elim
     (λ w. loop-as (w .13) (w .14) (w .16) (system-again _ (c .before .before .before .before .before .before .before .before .before .before .before .loop .inv .ready) _ _ _ _ _ _ _ _ _ _ _ (c .before .before .before .before .before .before .before .before .before .before .before .loop .inv .loop) (c .before .before .before .before .before .before .before .before .before .if1 .taken) _ _ _ (c .before .before .before .before .before .before .before .before .window-at .ensures) _ (c .before .before .before .before .before .before .before .before .before .before .before .before .before .before .before .before .before .before .before .before .before .pids .ensures) (c .before .before .before .before .before .before .before .moment-at .ensures) _ (one-more _ (c .before .before .before .before .before .before .before .before .before .before .before .before .before .before .before .before .before .before .before .before .before .before .before .before .before .before .before .pre .0)) (c .before .before .before .before .before .next .ensures) (w .1 .taken) _ _ (w .4 .ensures .0) (w .4 .ensures .1) _ _ _ _ _ _ _ _ _ (w .5) (w .6) (w .7) (w .8) (w .9) (w .10) (ap₂ slots (w .11) (w .12)) (w .15)))
-    (λ y.
-    ⊎-elim
-    (λ w. loop-as (w .13) (w .14) (w .16) (skip-again _ (c .before .before .before .before .before .before .before .before .before .before .before .loop .inv .ready) _ _ _ _ _ _ _ _ _ _ _ (c .before .before .before .before .before .before .before .before .before .before .before .loop .inv .loop) (c .before .before .before .before .before .before .before .before .before .if1 .taken) _ _ _ (c .before .before .before .before .before .before .before .before .window-at .ensures) _ (c .before .before .before .before .before .before .before .before .before .before .before .before .before .before .before .before .before .before .before .before .before .pids .ensures) (c .before .before .before .before .before .before .before .moment-at .ensures) _ (one-more _ (c .before .before .before .before .before .before .before .before .before .before .before .before .before .before .before .before .before .before .before .before .before .before .before .before .before .before .before .pre .0)) (c .before .before .before .before .before .next .ensures) (w .0 .left) (w .1 .left) _ (c .before .before .before .before .before .before .before .before .before .before .before .before .before .before .before .before .before .before .before .before .are-nobodys .ensures) (w .2 .taken) (w .3 .ensures) _ _ _ _ _ _ _ _ _ (w .5) (w .6) (w .7) (w .8) (w .9) (w .10) (ap₂ slots (w .11) (w .12)) (w .15)))
-    (λ w. loop-as (w .11) (w .12) (w .14) (idle-again _ (c .before .before .before .before .before .before .before .before .before .before .before .loop .inv .ready) _ _ _ _ _ _ _ _ _ _ _ (c .before .before .before .before .before .before .before .before .before .before .before .loop .inv .loop) (c .before .before .before .before .before .before .before .before .before .if1 .taken) _ _ _ (c .before .before .before .before .before .before .before .before .window-at .ensures) _ (c .before .before .before .before .before .before .before .before .before .before .before .before .before .before .before .before .before .before .before .before .before .pids .ensures) (c .before .before .before .before .before .before .before .moment-at .ensures) _ (one-more _ (c .before .before .before .before .before .before .before .before .before .before .before .before .before .before .before .before .before .before .before .before .before .before .before .before .before .before .before .pre .0)) (c .before .before .before .before .before .next .ensures) (w .0 .left) (w .1 .left) _ _ _ _ _ _ _ _ _ (w .3) (w .4) (w .5) (w .6) (w .7) (w .8) (ap₂ slots (w .9) (w .10)) (w .13)))
-    y)
+    (λ w. loop-as (w .13) (w .14) (w .16) (skip-again _ (c .before .before .before .before .before .before .before .before .before .before .before .loop .inv .ready) _ _ _ _ _ _ _ _ _ _ _ (c .before .before .before .before .before .before .before .before .before .before .before .loop .inv .loop) (c .before .before .before .before .before .before .before .before .before .if1 .taken) _ _ _ (c .before .before .before .before .before .before .before .before .window-at .ensures) _ (c .before .before .before .before .before .before .before .before .before .before .before .before .before .before .before .before .before .before .before .before .before .pids .ensures) (c .before .before .before .before .before .before .before .moment-at .ensures) _ (one-more _ (c .before .before .before .before .before .before .before .before .before .before .before .before .before .before .before .before .before .before .before .before .before .before .before .before .before .before .before .pre .0)) (c .before .before .before .before .before .next .ensures) (w .0 .left) (w .1 .left) _ (c .before .before .before .before .before .before .before .before .before .before .before .before .before .before .before .before .before .before .before .before .free-pids .ensures) (w .3 .ensures) _ _ _ _ _ _ _ _ _ (w .5) (w .6) (w .7) (w .8) (w .9) (w .10) (ap₂ slots (w .11) (w .12)) (w .15)))
     z)
     (c .before .before .before .if2 .came)
 
@@ -263,7 +259,7 @@ run-spec =
     mul-from
     mul-from-2
     pids-requires
-    are-nobodys-requires
+    free-pids-requires
     models-requires
     tbs-requires
     new-requires
