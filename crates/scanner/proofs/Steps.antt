@@ -7,15 +7,15 @@ use Prim.Native.Nat.{ℕ, _+_, _-_, _<_, _≤_, min}
 use native.Mathlib.Omega.{arith}
 use lib.Dec.{ltb, leb}
 use lib.ListN.{length, getD, length-append}
-use borrow.Author.Tests.{le-leb, le-ltb, leb-true, leb-false}
+use borrow.Author.Tests.{le-leb, le-ltb, leb-true, leb-false, ltb-false}
 use Rattle.pes.specs.StreamId.{hasOptionalHeader}
 use Rattle.scanner.specs.declared.Fed.{Fed}
 use Rattle.scanner.specs.declared.PesHeader.{PesHeader}
 use Rattle.scanner.specs.declared.PesScanner.{PesScanner}
 use Rattle.scanner.specs.declared.UnitCuts.{UnitCuts}
 use Rattle.scanner.specs.Unit.{optionalHeader, ptsDtsFlags, headerDataLength, stampEnd, contentBegin, stampOf, stampEndBy, contentBeginBy, cut, runsOf, Open, none, unit, runsIn, starts, nextOpen}
-use Rattle.scanner.specs.State.{stampBytesAt, headerOf, headerLimit, idle, inContent, pastHeader, scannerOf, unitWith, openOf, fedOf}
-use Rattle.scanner.specs.Joined.{decodeTsIn, cutsBy, keptFrom, begunAt, onlyBody}
+use Rattle.scanner.specs.State.{stampBytesAt, headerOf, headerLimit, idle, inContent, inHeader, onlyBody, unfedRuns, scannerOf, unitWith, openOf, fedOf}
+use Rattle.scanner.specs.Joined.{decodeTsIn, cutsBy, keptFrom, begunAt}
 use Rattle.scanner.proofs.Kept.{length-with, keeps}
 use Rattle.scanner.proofs.Cuts.{optional-is, flags-is, length-is, pts-bytes, dts-bytes, stamp-same, ordered, content-limit, content-within, settled, header-parts}
 
@@ -183,19 +183,25 @@ pub new-is : idle ≡ scannerOf none
 unfolding scannerOf
 new-is = refl
 
--- Where the content of its unit has begun, the scanner takes a payload that starts no unit as content alone, and stays as it is.
-past-kept : (o : Open) → pastHeader (scannerOf o) ≡ true → scannerOf o ≡ inContent
-unfolding pastHeader scannerOf idle
-past-kept none e = absurd (let z : _≡_ {A = ℕ} 0 1 = cc in omega arith)
-past-kept (unit u) e = go (leb (contentBegin u) (length u)) refl e
+-- A scanner that is in no header takes a payload that starts no unit as content, or as nothing before the first unit, and stays as it is.
+pub unfed-is : (o : Open) (p : List ℕ) → inHeader (scannerOf o) ≡ false
+    → fedOf (openOf (scannerOf o)) false p ≡ record { runs = unfedRuns (scannerOf o) (length p); scanner = scannerOf o }
+unfolding inHeader unfedRuns fedOf openOf scannerOf idle inContent
+unfed-is none p e = refl
+unfed-is (unit u) p e = go (leb (contentBegin u) (length u)) refl e
   where
-    go : (t : Bool) → leb (contentBegin u) (length u) ≡ t
-        → pastHeader (cond t inContent (record { count = length u; started = true; header = headerOf u })) ≡ true
-        → cond t inContent (record { count = length u; started = true; header = headerOf u }) ≡ inContent
-    go true b e = refl
-    go false b e = absurd (omega (arith, leb-false (contentBegin u) (length u) b, leb-true headerLimit (length u) e, content-limit u))
+    kept : Bool → PesScanner
+    kept t = cond t inContent (record { count = length u; started = true; header = headerOf u })
 
-pub past-fed : (o : Open) (p : List ℕ) → pastHeader (scannerOf o) ≡ true
-    → fedOf (openOf (scannerOf o)) false p ≡ record { runs = onlyBody (length p); scanner = scannerOf o }
-unfolding openOf inContent
-past-fed o p e = rw (past-kept o e) (past-limit headerLimit (headerOf []) p (omega arith))
+    go : (t : Bool) → leb (contentBegin u) (length u) ≡ t → inHeader (kept t) ≡ false
+        → fedOf (openOf (kept t)) false p ≡ record { runs = unfedRuns (kept t) (length p); scanner = kept t }
+    go true b e = past-limit headerLimit (headerOf []) p (omega arith)
+    go false b e = absurd (omega (arith, leb-false (contentBegin u) (length u) b, ltb-false (length u) headerLimit e, content-limit u))
+
+pub unfed-empty : (s : PesScanner) → unfedRuns s 0 ≡ onlyBody 0
+unfolding unfedRuns
+unfed-empty s = go (s .started)
+  where
+    go : (b : Bool) → onlyBody (cond b 0 0) ≡ onlyBody 0
+    go true = refl
+    go false = refl

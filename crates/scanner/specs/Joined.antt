@@ -11,7 +11,6 @@ use Rattle.scanner.specs.declared.StampBytes.{StampBytes}
 use Rattle.scanner.specs.declared.PesHeader.{PesHeader}
 use Rattle.pes.specs.StreamId.{hasOptionalHeader}
 use Rattle.scanner.specs.declared.UnitCuts.{UnitCuts}
-use Rattle.scanner.specs.declared.Runs.{Runs}
 use Rattle.scanner.specs.declared.PesScanner.{PesScanner}
 use Rattle.scanner.specs.Unit.{stampEndBy, contentBeginBy, decodeTsBy}
 use Rattle.scanner.specs.State.{headerOf, inContent}
@@ -53,6 +52,3 @@ keptFrom e t h = cond (leb t e) inContent (record { count = e; started = true; h
 
 unfoldable pub begunAt : PesScanner → Bool → ℕ → PesScanner
 begunAt s bit size = cond (bit && ltb 0 size) (record { count = 0; started = true; header = headerOf [] }) s
-
-abbrev pub onlyBody : ℕ → Runs
-onlyBody n = record { head = 0; «decode_ts» = DecodeTs.Absent; rest = 0; body = n }

@@ -3,7 +3,9 @@ use Prim.Native.Nat.{ℕ, _+_}
 use mathlib.Core.List.{List, [], _∷_, _++_}
 use mathlib.Core.Bool.{Bool, true, false, cond, _&&_}
 use lib.ListN.{length, getD, take, replicate}
-use lib.Dec.{leb}
+use lib.Dec.{ltb, leb}
+use Rattle.scanner.specs.declared.DecodeTs.{DecodeTs}
+use Rattle.scanner.specs.declared.Runs.{Runs}
 use Rattle.scanner.specs.declared.StampBytes.{StampBytes}
 use Rattle.scanner.specs.declared.PesHeader.{PesHeader}
 use Rattle.scanner.specs.declared.PesScanner.{PesScanner}
@@ -35,9 +37,17 @@ idle = record { count = 0; started = false; header = headerOf [] }
 unfoldable pub inContent : PesScanner
 inContent = record { count = headerLimit; started = true; header = headerOf [] }
 
--- the content of the open unit has begun
-unfoldable pub pastHeader : PesScanner → Bool
-pastHeader s = s .started && leb headerLimit (s .count)
+-- a unit is open, and its content has not begun
+unfoldable pub inHeader : PesScanner → Bool
+inHeader s = s .started && ltb (s .count) headerLimit
+
+-- a payload of content alone
+abbrev pub onlyBody : ℕ → Runs
+onlyBody n = record { head = 0; «decode_ts» = DecodeTs.Absent; rest = 0; body = n }
+
+-- the runs of n bytes that start no unit and have no header bytes: content, or none before the first unit
+unfoldable pub unfedRuns : PesScanner → ℕ → Runs
+unfedRuns s n = onlyBody (cond (s .started) n 0)
 
 -- what is kept of an open unit: its count of bytes and those bytes, up to its content
 unfoldable pub scannerOf : Open → PesScanner

@@ -6,8 +6,8 @@ ghost use mathlib.Core.List.{[], _++_};
 ghost use Prim.Native.Nat.{_+_, _-_, _<_, _≤_, min};
 ghost use Rattle.scanner.specs.Unit.{stampBytes, stampEndBy, contentBeginBy, cut, unit};
 ghost use Rattle.syntax.specs.TimeStamp.{timestamp};
-ghost use Rattle.scanner.specs.Joined.{byteAt, stampAt, listed, decodeTsIn, stampHere, cutsBy, keptFrom, begunAt, onlyBody};
-ghost use Rattle.scanner.specs.State.{headerLimit, headerOf, idle, inContent, pastHeader, unitWith, openOf, fedOf};
+ghost use Rattle.scanner.specs.Joined.{byteAt, stampAt, listed, decodeTsIn, stampHere, cutsBy, keptFrom, begunAt};
+ghost use Rattle.scanner.specs.State.{headerLimit, headerOf, idle, inContent, inHeader, onlyBody, unfedRuns, unitWith, openOf, fedOf};
 
 // The decode time that a header announces: 33 bits at 90 kHz, the DTS where it is coded, else the PTS.
 pub enum DecodeTs {
@@ -308,8 +308,8 @@ fn begun(s: PesScanner, start: bool, size: usize) -> PesScanner
     s
 }
 
-// A payload of content alone. Ruled out: a header byte among its bytes; a time stamp.
-pub fn only(body: usize) -> Runs
+// A payload of content alone.
+fn only(body: usize) -> Runs
     ensures { λ r. ⌜ r ≡ onlyBody body ⌝ }
 {
     Runs {
@@ -321,15 +321,26 @@ pub fn only(body: usize) -> Runs
 }
 
 impl PesScanner {
-    // The content of the open unit has begun: a payload that starts no unit is content alone and leaves the state as it is.
-    // Ruled out: true before the first unit; true while header bytes may come.
-    pub fn past_header(self) -> bool
-        ensures { λ r. ⌜ r ≡ pastHeader self ⌝ }
+    // A payload that starts no unit may have header bytes: a unit is open, and its content has not begun.
+    // Ruled out: true before the first unit; false while header bytes may come.
+    pub fn in_header(self) -> bool
+        ensures { λ r. ⌜ r ≡ inHeader self ⌝ }
     {
         if self.started {
-            return HEADER_LIMIT <= self.count;
+            return self.count < HEADER_LIMIT;
         }
         false
+    }
+
+    // The runs of a payload of so many bytes that starts no unit and has no header bytes: content, or none before the first unit.
+    // Ruled out: runs before the first unit; fewer bytes of content than the payload has.
+    pub fn unfed(self, size: usize) -> Runs
+        ensures { λ r. ⌜ r ≡ unfedRuns self size ⌝ }
+    {
+        if self.started {
+            return only(size);
+        }
+        only(0)
     }
 
     // Before the first unit. Ruled out: a state that a payload without the start bit would get runs from; a unit open already.

@@ -16,9 +16,8 @@ use Rattle.scanner.specs.declared.Runs.{Runs}
 use Rattle.scanner.specs.declared.Fed.{Fed}
 use Rattle.scanner.specs.declared.PesScanner.{PesScanner}
 use Rattle.scanner.specs.Unit.{Open, nextOpen, runsIn}
-use Rattle.scanner.specs.State.{pastHeader, scannerOf, openOf, fedOf}
-use Rattle.scanner.specs.Joined.{onlyBody}
-use Rattle.scanner.proofs.Steps.{fed-runs, fed-scanner, past-fed}
+use Rattle.scanner.specs.State.{inHeader, unfedRuns, scannerOf, openOf, fedOf}
+use Rattle.scanner.proofs.Steps.{fed-runs, fed-scanner, unfed-is}
 use Rattle.arrival.specs.declared.RateInterval.{RateInterval}
 use Rattle.arrival.specs.Bounds.{IntervalWithin}
 use Rattle.arrival.proofs.Stamps.{decode-time-is}
@@ -110,12 +109,13 @@ module _ (tb : FluidFifo) (s : PesScanner) (w : List ℕ) (start : ℕ) (t0 u : 
       rw (ne-eqb start 188 (λ e. omega arith))
       (ap (arrivedWith (fedOf (openOf s) bit (payloadOf w start) .scanner)) (sym (fed-fits tb (openOf s) bit w start t0 u _ (omega arith))))
 
-  -- a payload that starts no unit, behind the header of the open one, is content alone and leaves the scanner as it is
-  pub content-arrives : (o : Open) → s ≡ scannerOf o → pastHeader s ≡ true → length w ≤ 188 → start < 188
-      → arrivedOf stream w start false t0 u i ≡ arrivedWith s (arriveIn tb start (onlyBody (length w - start)) t0 u -∞)
-  content-arrives o keeps past l h =
+  -- a payload that starts no unit and has no header bytes leaves the scanner as it is
+  pub unfed-arrives : (o : Open) → s ≡ scannerOf o → inHeader s ≡ false → length w ≤ 188 → start < 188
+      → arrivedOf stream w start false t0 u i ≡ arrivedWith s (arriveIn tb start (unfedRuns s (length w - start)) t0 u -∞)
+  unfolding unfedRuns
+  unfed-arrives o keeps outside l h =
       scanned-arrives false h
       ∙ ap (λ (f : Fed). arrivedWith (f .scanner) (arriveIn tb start (f .runs) t0 u (stampAnswer i (f .runs .«decode_ts»)))) fed
     where
-      fed : fedOf (openOf s) false (payloadOf w start) ≡ record { runs = onlyBody (length w - start); scanner = s }
-      fed = rw (keeps, ← payload-length w start l) (past-fed o (payloadOf w start) (rw keeps at past))
+      fed : fedOf (openOf s) false (payloadOf w start) ≡ record { runs = unfedRuns s (length w - start); scanner = s }
+      fed = rw (keeps, ← payload-length w start l) (unfed-is o (payloadOf w start) (rw keeps at outside))

@@ -8,7 +8,7 @@ use lib.Ieee.{Float}
 use borrow.Author.Tests.{eq-eqb, ne-eqb, le-leb, leb-true}
 use Rattle.ieee.specs.Binary64.{_⊖_, 188f}
 use Rattle.scanner.specs.declared.Runs.{Runs}
-use Rattle.scanner.specs.Joined.{onlyBody}
+use Rattle.scanner.specs.State.{onlyBody}
 use Rattle.fifo.specs.declared.FluidFifo.{FluidFifo}
 use Rattle.fifo.specs.FluidFifo.{pushed}
 use Rattle.transport.specs.Arrive.{float, frac, noRun, nothing, through, delivery, arrive, fitsIn, arriveIn}

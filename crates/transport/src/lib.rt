@@ -9,7 +9,7 @@ use scanner::Runs;
 ghost use mathlib.Core.Path.{_≡_};
 ghost use Prim.Native.Nat.{_+_, _^_, _<_};
 ghost use Rattle.ieee.specs.Binary64.{ -∞};
-ghost use Rattle.scanner.specs.Joined.{onlyBody};
+ghost use Rattle.scanner.specs.State.{onlyBody};
 ghost use Rattle.transport.specs.Arrive.{through, nothing, noRun, delivery, fitsIn, arriveIn};
 ghost use Rattle.transport.specs.Transport.{byteTime, stampAnswer};
 

@@ -1,8 +1,8 @@
--- A stream's scanner in a step of pass 2: it is fed, or the payload is content alone and it stays. Assumes nothing.
+-- A stream's scanner in a step of pass 2: it is fed, or it stays as it is. Assumes nothing.
 use Prim.Native.Nat.{ℕ, _+_, _-_, _≤_, _<_}
 use native.Mathlib.Omega.{arith}
 use mathlib.Core.Path.{_≡_, refl, sym, ap, _∙_}
-use mathlib.Core.Bool.{Bool, true, false, not, _&&_, _||_, true≢false}
+use mathlib.Core.Bool.{Bool, true, false, _&&_, _||_, true≢false}
 use mathlib.Core.List.{List}
 use lib.ListN.{length, getD, set}
 use lib.Dec.{ltb}
@@ -13,22 +13,22 @@ use Rattle.scanner.specs.declared.PesScanner.{PesScanner}
 use Rattle.scanner.specs.declared.Fed.{Fed}
 use Rattle.scanner.specs.declared.Runs.{Runs}
 use Rattle.scanner.specs.Unit.{Open}
-use Rattle.scanner.specs.State.{idle, scannerOf, openOf, fedOf, pastHeader}
-use Rattle.scanner.specs.Joined.{onlyBody}
+use Rattle.scanner.specs.State.{idle, inHeader, unfedRuns, scannerOf, openOf, fedOf}
+use Rattle.scanner.proofs.Steps.{unfed-empty}
 use Rattle.arrival.specs.declared.PacketArrival.{PacketArrival}
 use Rattle.events.specs.Slots.{Slots}
 use Rattle.fifo.specs.declared.FluidFifo.{FluidFifo}
 use Rattle.transport.specs.declared.Arrived.{Arrived}
 use Rattle.transport.specs.Arrive.{arriveIn}
 use Rattle.transport.specs.Transport.{Passed, stampAnswer, arrivedWith, arrivedOf}
-use Rattle.transport.proofs.Arrivals.{scanned-arrives, content-arrives, empty-arrives}
+use Rattle.transport.proofs.Arrivals.{scanned-arrives, unfed-arrives, empty-arrives}
 use Rattle.tstd.specs.declared.moment.Moment.{Moment}
 use Rattle.tstd.specs.Moments.{scansIn, BufferOf, FrontOf}
 use Rattle.tstd.proofs.Turns.{Replaced, replaced-set, replaced-none}
 
 pub data ScanWay (s : PesScanner) (w : List ℕ) (m : Moment) (runs : Runs) (s' : PesScanner) : Type 0 where
   fed : scansIn s m ≡ true → (x : Fed) → x ≡ fedOf (openOf s) (m .«payload_unit_start») (payloadOf w (m .«payload_start»)) → runs ≡ x .runs → s' ≡ x .scanner → ScanWay s w m runs s'
-  kept : scansIn s m ≡ false → runs ≡ onlyBody (length w - m .«payload_start») → s' ≡ s → ScanWay s w m runs s'
+  kept : scansIn s m ≡ false → runs ≡ unfedRuns s (length w - m .«payload_start») → s' ≡ s → ScanWay s w m runs s'
 
 -- the scanners and the runs of the packet w behind the step of stream i
 pub record Scanned (ss : List PesScanner) (i : ℕ) (w : List ℕ) (m : Moment) (runs : Runs) (ss' : List PesScanner) : Type 0 where
@@ -46,12 +46,12 @@ module _ (ss : List PesScanner) (i : ℕ) (w : List ℕ) (m : Moment) (size : le
         way = fed (ap (λ (z : PesScanner). scansIn z m) (sym is-known) ∙ sym is-scans ∙ e) x (f ∙ ap (λ (z : PesScanner). fedOf (openOf z) (m .«payload_unit_start») (payloadOf w (m .«payload_start»))) is-before) er refl;
       }
 
-  pub scanned-kept : scans ≡ false → (ss' : List PesScanner) (runs : Runs) → ss' ≡ ss → runs ≡ onlyBody (length w - m .«payload_start») → Scanned ss i w m runs ss'
+  pub scanned-kept : scans ≡ false → (ss' : List PesScanner) (runs : Runs) → ss' ≡ ss → runs ≡ unfedRuns known (length w - m .«payload_start») → Scanned ss i w m runs ss'
   scanned-kept e ss' runs es er =
       record {
         scanner = getD ss i idle;
         replaced = rw es (replaced-none idle ss i size);
-        way = kept (ap (λ (z : PesScanner). scansIn z m) (sym is-known) ∙ sym is-scans ∙ e) er refl;
+        way = kept (ap (λ (z : PesScanner). scansIn z m) (sym is-known) ∙ sym is-scans ∙ e) (er ∙ ap (λ (z : PesScanner). unfedRuns z (length w - m .«payload_start»)) is-known) refl;
       }
 
 -- ---- the transport buffer with it
@@ -77,17 +77,18 @@ module _ (tb : FluidFifo) (s s' : PesScanner) (w : List ℕ) (m : Moment) (a : P
       let h : m .«payload_start» < 188 = ltb-true _ _ (and-left _ _ (rw e at t)) in
       rw (p, q, f) (sym (scanned-arrives tb s w (m .«payload_start») (a .t0) (a .t1) (a .cursor .interval) (m .«payload_unit_start») h))
 
-  -- a scanner that is not fed: the packet has no payload, or it is content alone
-  keeps : (x y z : Bool) → ltb (m .«payload_start») 188 ≡ x → m .«payload_unit_start» ≡ y → pastHeader s ≡ z → (x && (y || not z)) ≡ false
-      → runs ≡ onlyBody (length w - m .«payload_start») → s' ≡ s → (o : Open) → s ≡ scannerOf o → length w ≤ 188 → m .«payload_start» ≤ 188 → arrivedWith s' buffered ≡ arrived
+  -- a scanner that is not fed: the packet has no payload, or one that starts no unit and has no header bytes
+  keeps : (x y z : Bool) → ltb (m .«payload_start») 188 ≡ x → m .«payload_unit_start» ≡ y → inHeader s ≡ z → (x && (y || z)) ≡ false
+      → runs ≡ unfedRuns s (length w - m .«payload_start») → s' ≡ s → (o : Open) → s ≡ scannerOf o → length w ≤ 188 → m .«payload_start» ≤ 188 → arrivedWith s' buffered ≡ arrived
+  unfolding unfedRuns
   keeps false y z ex ey ez h p q o is few start =
       let e : m .«payload_start» ≡ 188 = omega (arith, ltb-false (m .«payload_start») 188 ex) in
-      let none : runs .head + runs .rest + runs .body ≡ 0 = rw p (omega arith) in
+      let none : runs .head + runs .rest + runs .body ≡ 0 = rw (p ∙ ap (unfedRuns s) (omega arith) ∙ unfed-empty s) in
       rw q (sym (empty-arrives tb s w (m .«payload_start») (a .t0) (a .t1) (a .cursor .interval) (m .«payload_unit_start») runs _ e none))
   keeps true true z ex ey ez h p q o is few start = absurd (true≢false h)
-  keeps true false false ex ey ez h p q o is few start = absurd (true≢false h)
-  keeps true false true ex ey ez h p q o is few start =
-      rw (q, p, ey) (sym (content-arrives tb s w (m .«payload_start») (a .t0) (a .t1) (a .cursor .interval) o is ez few (ltb-true _ _ ex)))
+  keeps true false true ex ey ez h p q o is few start = absurd (true≢false h)
+  keeps true false false ex ey ez h p q o is few start =
+      rw (q, p, ey) (sym (unfed-arrives tb s w (m .«payload_start») (a .t0) (a .t1) (a .cursor .interval) o is ez few (ltb-true _ _ ex)))
 
   arrives-by : m .end ≡ false → ScanWay s w m runs s' → (o : Open) → s ≡ scannerOf o → length w ≤ 188 → m .«payload_start» ≤ 188 → arrivedWith s' buffered ≡ arrived
   unfolding scansIn

@@ -19,7 +19,7 @@ use Rattle.fifo.specs.FluidFifo.{new, pushed}
 use Rattle.scanner.specs.declared.PesScanner.{PesScanner}
 use Rattle.scanner.specs.declared.Runs.{Runs}
 use Rattle.scanner.specs.Unit.{Open}
-use Rattle.scanner.specs.State.{scannerOf, pastHeader}
+use Rattle.scanner.specs.State.{scannerOf, inHeader}
 use Rattle.profile.specs.declared.owner.Owner.{Owner}
 use Rattle.profile.specs.declared.owner.Pids.{Pids}
 use Rattle.profile.specs.Owner.{ownerBy}
@@ -63,7 +63,7 @@ nextTimes m a t =
 
 -- whether the scanner s is fed the payload: one that has bytes, where a header is in it or may be
 unfoldable pub scansIn : PesScanner → Moment → Bool
-scansIn s m = (not (m .end) && ltb (m .«payload_start») 188) && (m .«payload_unit_start» || not (pastHeader s))
+scansIn s m = (not (m .end) && ltb (m .«payload_start») 188) && (m .«payload_unit_start» || inHeader s)
 
 -- a packet with the runs of its payload, or the end of a stream, at its transport buffer, with the events from slot k on
 pub record BufferOf (tb : FluidFifo) (runs : Runs) (m : Moment) (a : PacketArrival) (k : ℕ) (s : Slots) (r : Arrived) (s' : Slots) : Type 0 where

@@ -13,8 +13,7 @@ ghost use mathlib.Core.Path.{_≡_};
 ghost use Prim.Native.Nat.{_-_, _<_};
 ghost use lib.ListN.{length};
 ghost use Rattle.packet.specs.Packet.{payloadOf};
-ghost use Rattle.scanner.specs.State.{openOf, fedOf};
-ghost use Rattle.scanner.specs.Joined.{onlyBody};
+ghost use Rattle.scanner.specs.State.{openOf, fedOf, unfedRuns};
 ghost use Rattle.events.specs.Slots.{slots, notedAll};
 ghost use Rattle.branch.specs.SysBranch.{rsysOf, sysEvents};
 ghost use Rattle.model.specs.Chain.{tbEvents};
@@ -48,17 +47,17 @@ pub(crate) fn scans(s: PesScanner, m: Moment) -> bool
     ensures { λ r. ⌜ r ≡ scansIn s m ⌝ }
 {
     let has_payload = !m.end & (m.payload_start < 188);
-    has_payload & (m.payload_unit_start | !s.past_header())
+    has_payload & (m.payload_unit_start | s.in_header())
 }
 
-// The runs of a payload that is content alone: one that the scanner is not fed.
-pub(crate) fn content(window: &[u8], m: Moment) -> Runs
-    ensures { λ r. ⌜ r ≡ onlyBody (length (now (window .entry)) - m .«payload_start») ⌝ }
+// The runs of a payload that the scanner is not fed.
+pub(crate) fn unfed(s: PesScanner, window: &[u8], m: Moment) -> Runs
+    ensures { λ r. ⌜ r ≡ unfedRuns s (length (now (window .entry)) - m .«payload_start») ⌝ }
 {
     if m.payload_start < window.len() {
-        return scanner::only(window.len() - m.payload_start);
+        return s.unfed(window.len() - m.payload_start);
     }
-    scanner::only(0)
+    s.unfed(0)
 }
 
 pub(crate) fn feed(s: PesScanner, window: &[u8], m: Moment) -> Fed

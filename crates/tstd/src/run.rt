@@ -69,7 +69,7 @@ pub(crate) fn run(
         let i = m.owner;
         if i < 8 {
             let known = scanners[i];
-            let mut runs = front::content(window, m);
+            let mut runs = front::unfed(known, window, m);
             if front::scans(known, m) {
                 let before = scanners[i];
                 let fed = front::feed(before, window, m);

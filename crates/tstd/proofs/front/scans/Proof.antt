@@ -4,12 +4,12 @@ use borrow.Author.Needs.{needs}
 use Rattle.tstd.proofs.front.scans.Statement.{statement}
 use Rattle.tstd.proofs.front.scans.Tie as tie
 
-past-header-requires : tie.Need-past-header-requires
-past-header-requires c κs = search needs
+in-header-requires : tie.Need-in-header-requires
+in-header-requires c κs = search needs
 
 returns : tie.Need-returns
 unfolding scansIn
-returns c = rw (c .before .past-header .ensures)
+returns c = rw (c .before .in-header .ensures)
 
 pub scans-spec : {M : Type 1} → statement M
-scans-spec = tie.close (tie.spec past-header-requires returns)
+scans-spec = tie.close (tie.spec in-header-requires returns)

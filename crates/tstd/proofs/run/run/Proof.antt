@@ -90,8 +90,8 @@ mul-known c = search needs
 array-copy-out-known : tie.Need-array-copy-out-known Inv-loop μ-loop
 array-copy-out-known c = search needs
 
-content-requires : tie.Need-content-requires Inv-loop μ-loop
-content-requires c κs = search needs
+unfed-requires : tie.Need-unfed-requires Inv-loop μ-loop
+unfed-requires c κs = search needs
 
 scans-requires : tie.Need-scans-requires Inv-loop μ-loop
 scans-requires c κs = search needs
@@ -241,8 +241,8 @@ returns c = loop-ends _ (c .before .before .loop .inv .ready) _ _ _ _ _ _ _ _ _ 
 returns-2 : tie.Need-returns-2 Inv-loop μ-loop
 returns-2 c =
     ⊎-elim
-    (λ v. video-refuses _ (c .before .before .before .before .before .before .before .before .before .before .before .before .before .before .before .before .before .before .before .before .before .loop .inv .ready) _ _ _ _ _ _ _ _ _ _ _ (c .before .before .before .before .before .before .before .before .before .before .before .before .before .before .before .before .before .before .before .before .before .loop .inv .loop) (c .before .before .before .before .before .before .before .before .before .before .before .before .before .before .before .before .before .before .before .if1 .taken) _ _ _ (c .before .before .before .before .before .before .before .before .before .before .before .before .before .before .before .before .before .before .window-at .ensures) _ (c .before .before .before .before .before .before .before .before .before .before .before .before .before .before .before .before .before .before .before .before .before .before .before .before .before .before .before .before .before .before .before .pids .ensures) (c .before .before .before .before .before .before .before .before .before .before .before .before .before .before .before .before .before .moment-at .ensures) _ (one-more _ (c .before .before .before .before .before .before .before .before .before .before .before .before .before .before .before .before .before .before .before .before .before .before .before .before .before .before .before .before .before .before .before .before .before .before .before .before .before .pre .0)) (c .before .before .before .before .before .before .before .before .before .before .before .before .before .before .before .next .ensures) (c .before .before .before .before .before .before .before .before .before .before .before .before .before .before .before .before .before .moment-at .result .owner) refl (c .before .before .before .before .before .before .before .before .before .before .before .before .before .if2 .taken) _ (getD-any (c .before .before .before .before .before .before .before .before .before .before .before .before .before .before .before .before .before .before .before .before .before .loop .tbs) (c .before .before .before .before .before .before .before .before .before .before .before .before .before .before .before .before .before .moment-at .result .owner) _ unusedTb (omega (arith, (c .before .before .before .before .before .before .before .before .before .before .before .before .before .before .before .before .before .before .before .before .before .loop .inv .loop) .now .ts-size, (c .before .before .before .before .before .before .before .before .before .before .before .before .before .if2 .taken)))) _ _ (⊎-elim (λ s. scanned-fed _ _ _ _ ((c .before .before .before .before .before .before .before .before .before .before .before .before .before .before .before .before .before .before .before .before .before .loop .inv .loop) .now .ss-size) (c .before .before .before .before .before .before .before .before .before .before .before .before .before .if2 .taken) _ (getD-any (c .before .before .before .before .before .before .before .before .before .before .before .before .before .before .before .before .before .before .before .before .before .loop .scanners) (c .before .before .before .before .before .before .before .before .before .before .before .before .before .before .before .before .before .moment-at .result .owner) _ idle (omega (arith, (c .before .before .before .before .before .before .before .before .before .before .before .before .before .before .before .before .before .before .before .before .before .loop .inv .loop) .now .ss-size, (c .before .before .before .before .before .before .before .before .before .before .before .before .before .if2 .taken)))) _ (c .before .before .before .before .before .before .before .before .before .before .scans .ensures) (s .0 .taken) _ (getD-any (c .before .before .before .before .before .before .before .before .before .before .before .before .before .before .before .before .before .before .before .before .before .loop .scanners) (c .before .before .before .before .before .before .before .before .before .before .before .before .before .before .before .before .before .moment-at .result .owner) _ idle (omega (arith, (c .before .before .before .before .before .before .before .before .before .before .before .before .before .before .before .before .before .before .before .before .before .loop .inv .loop) .now .ss-size, (c .before .before .before .before .before .before .before .before .before .before .before .before .before .if2 .taken)))) _ (s .2 .ensures) _ _ (s .5) (s .6)) (λ s. scanned-kept _ _ _ _ ((c .before .before .before .before .before .before .before .before .before .before .before .before .before .before .before .before .before .before .before .before .before .loop .inv .loop) .now .ss-size) (c .before .before .before .before .before .before .before .before .before .before .before .before .before .if2 .taken) _ (getD-any (c .before .before .before .before .before .before .before .before .before .before .before .before .before .before .before .before .before .before .before .before .before .loop .scanners) (c .before .before .before .before .before .before .before .before .before .before .before .before .before .before .before .before .before .moment-at .result .owner) _ idle (omega (arith, (c .before .before .before .before .before .before .before .before .before .before .before .before .before .before .before .before .before .before .before .before .before .loop .inv .loop) .now .ss-size, (c .before .before .before .before .before .before .before .before .before .before .before .before .before .if2 .taken)))) _ (c .before .before .before .before .before .before .before .before .before .before .scans .ensures) (s .0 .left) _ _ (s .1) (s .2 ∙ c .before .before .before .before .before .before .before .before .before .before .before .content .ensures)) (c .before .before .before .before .before .before .before .before .before .if3 .came)) _ _ (c .before .before .before .before .before .front .ensures) _ (getD-any (c .before .before .before .before .before .before .before .before .before .before .before .before .before .before .before .before .before .before .before .before .before .before .before .before .before .before .before .before .before .models .result) (c .before .before .before .before .before .before .before .before .before .before .before .before .before .before .before .before .before .moment-at .result .owner) _ unusedModel (omega (arith, (c .before .before .before .before .before .before .before .before .before .before .before .before .before .before .before .before .before .before .before .before .before .before .before .before .before .before .before .before .before .models .ensures) .size, (c .before .before .before .before .before .before .before .before .before .before .before .before .before .if2 .taken))) ∙ (c .before .before .before .before .before .before .before .before .before .before .before .before .before .before .before .before .before .before .before .before .before .before .before .before .before .before .before .before .before .models .ensures) .at (c .before .before .before .before .before .before .before .before .before .before .before .before .before .before .before .before .before .moment-at .result .owner) (c .before .before .before .before .before .before .before .before .before .before .before .before .before .if2 .taken)) _ _ _ refl _ (v .11) (v .0 .taken) _ (getD-any (c .before .before .before .before .before .before .before .before .before .before .before .before .before .before .before .before .before .before .before .before .before .loop .videos) (c .before .before .before .before .before .before .before .before .before .before .before .before .before .before .before .before .before .moment-at .result .owner) _ video-work.newBranch (omega (arith, (c .before .before .before .before .before .before .before .before .before .before .before .before .before .before .before .before .before .before .before .before .before .loop .inv .loop) .now .vs-size, (c .before .before .before .before .before .before .before .before .before .before .before .before .before .if2 .taken)))) _ (v .7 .ensures) _ (c .if5 .taken) (sym (v .16) ∙ c .if5 .taken) refl refl)
-    (λ v. main-refuses _ (c .before .before .before .before .before .before .before .before .before .before .before .before .before .before .before .before .before .before .before .before .before .loop .inv .ready) _ _ _ _ _ _ _ _ _ _ _ (c .before .before .before .before .before .before .before .before .before .before .before .before .before .before .before .before .before .before .before .before .before .loop .inv .loop) (c .before .before .before .before .before .before .before .before .before .before .before .before .before .before .before .before .before .before .before .if1 .taken) _ _ _ (c .before .before .before .before .before .before .before .before .before .before .before .before .before .before .before .before .before .before .window-at .ensures) _ (c .before .before .before .before .before .before .before .before .before .before .before .before .before .before .before .before .before .before .before .before .before .before .before .before .before .before .before .before .before .before .before .pids .ensures) (c .before .before .before .before .before .before .before .before .before .before .before .before .before .before .before .before .before .moment-at .ensures) _ (one-more _ (c .before .before .before .before .before .before .before .before .before .before .before .before .before .before .before .before .before .before .before .before .before .before .before .before .before .before .before .before .before .before .before .before .before .before .before .before .before .pre .0)) (c .before .before .before .before .before .before .before .before .before .before .before .before .before .before .before .next .ensures) (c .before .before .before .before .before .before .before .before .before .before .before .before .before .before .before .before .before .moment-at .result .owner) refl (c .before .before .before .before .before .before .before .before .before .before .before .before .before .if2 .taken) _ (getD-any (c .before .before .before .before .before .before .before .before .before .before .before .before .before .before .before .before .before .before .before .before .before .loop .tbs) (c .before .before .before .before .before .before .before .before .before .before .before .before .before .before .before .before .before .moment-at .result .owner) _ unusedTb (omega (arith, (c .before .before .before .before .before .before .before .before .before .before .before .before .before .before .before .before .before .before .before .before .before .loop .inv .loop) .now .ts-size, (c .before .before .before .before .before .before .before .before .before .before .before .before .before .if2 .taken)))) _ _ (⊎-elim (λ s. scanned-fed _ _ _ _ ((c .before .before .before .before .before .before .before .before .before .before .before .before .before .before .before .before .before .before .before .before .before .loop .inv .loop) .now .ss-size) (c .before .before .before .before .before .before .before .before .before .before .before .before .before .if2 .taken) _ (getD-any (c .before .before .before .before .before .before .before .before .before .before .before .before .before .before .before .before .before .before .before .before .before .loop .scanners) (c .before .before .before .before .before .before .before .before .before .before .before .before .before .before .before .before .before .moment-at .result .owner) _ idle (omega (arith, (c .before .before .before .before .before .before .before .before .before .before .before .before .before .before .before .before .before .before .before .before .before .loop .inv .loop) .now .ss-size, (c .before .before .before .before .before .before .before .before .before .before .before .before .before .if2 .taken)))) _ (c .before .before .before .before .before .before .before .before .before .before .scans .ensures) (s .0 .taken) _ (getD-any (c .before .before .before .before .before .before .before .before .before .before .before .before .before .before .before .before .before .before .before .before .before .loop .scanners) (c .before .before .before .before .before .before .before .before .before .before .before .before .before .before .before .before .before .moment-at .result .owner) _ idle (omega (arith, (c .before .before .before .before .before .before .before .before .before .before .before .before .before .before .before .before .before .before .before .before .before .loop .inv .loop) .now .ss-size, (c .before .before .before .before .before .before .before .before .before .before .before .before .before .if2 .taken)))) _ (s .2 .ensures) _ _ (s .5) (s .6)) (λ s. scanned-kept _ _ _ _ ((c .before .before .before .before .before .before .before .before .before .before .before .before .before .before .before .before .before .before .before .before .before .loop .inv .loop) .now .ss-size) (c .before .before .before .before .before .before .before .before .before .before .before .before .before .if2 .taken) _ (getD-any (c .before .before .before .before .before .before .before .before .before .before .before .before .before .before .before .before .before .before .before .before .before .loop .scanners) (c .before .before .before .before .before .before .before .before .before .before .before .before .before .before .before .before .before .moment-at .result .owner) _ idle (omega (arith, (c .before .before .before .before .before .before .before .before .before .before .before .before .before .before .before .before .before .before .before .before .before .loop .inv .loop) .now .ss-size, (c .before .before .before .before .before .before .before .before .before .before .before .before .before .if2 .taken)))) _ (c .before .before .before .before .before .before .before .before .before .before .scans .ensures) (s .0 .left) _ _ (s .1) (s .2 ∙ c .before .before .before .before .before .before .before .before .before .before .before .content .ensures)) (c .before .before .before .before .before .before .before .before .before .if3 .came)) _ _ (c .before .before .before .before .before .front .ensures) _ (getD-any (c .before .before .before .before .before .before .before .before .before .before .before .before .before .before .before .before .before .before .before .before .before .before .before .before .before .before .before .before .before .models .result) (c .before .before .before .before .before .before .before .before .before .before .before .before .before .before .before .before .before .moment-at .result .owner) _ unusedModel (omega (arith, (c .before .before .before .before .before .before .before .before .before .before .before .before .before .before .before .before .before .before .before .before .before .before .before .before .before .before .before .before .before .models .ensures) .size, (c .before .before .before .before .before .before .before .before .before .before .before .before .before .if2 .taken))) ∙ (c .before .before .before .before .before .before .before .before .before .before .before .before .before .before .before .before .before .before .before .before .before .before .before .before .before .before .before .before .before .models .ensures) .at (c .before .before .before .before .before .before .before .before .before .before .before .before .before .before .before .before .before .moment-at .result .owner) (c .before .before .before .before .before .before .before .before .before .before .before .before .before .if2 .taken)) _ _ _ refl _ (v .11) (v .0 .left) _ (getD-any (c .before .before .before .before .before .before .before .before .before .before .before .before .before .before .before .before .before .before .before .before .before .loop .mains) (c .before .before .before .before .before .before .before .before .before .before .before .before .before .before .before .before .before .moment-at .result .owner) _ main-work.newBranch (omega (arith, (c .before .before .before .before .before .before .before .before .before .before .before .before .before .before .before .before .before .before .before .before .before .loop .inv .loop) .now .ms-size, (c .before .before .before .before .before .before .before .before .before .before .before .before .before .if2 .taken)))) _ (v .7 .ensures) _ (c .if5 .taken) (sym (v .16) ∙ c .if5 .taken) refl refl)
+    (λ v. video-refuses _ (c .before .before .before .before .before .before .before .before .before .before .before .before .before .before .before .before .before .before .before .before .before .loop .inv .ready) _ _ _ _ _ _ _ _ _ _ _ (c .before .before .before .before .before .before .before .before .before .before .before .before .before .before .before .before .before .before .before .before .before .loop .inv .loop) (c .before .before .before .before .before .before .before .before .before .before .before .before .before .before .before .before .before .before .before .if1 .taken) _ _ _ (c .before .before .before .before .before .before .before .before .before .before .before .before .before .before .before .before .before .before .window-at .ensures) _ (c .before .before .before .before .before .before .before .before .before .before .before .before .before .before .before .before .before .before .before .before .before .before .before .before .before .before .before .before .before .before .before .pids .ensures) (c .before .before .before .before .before .before .before .before .before .before .before .before .before .before .before .before .before .moment-at .ensures) _ (one-more _ (c .before .before .before .before .before .before .before .before .before .before .before .before .before .before .before .before .before .before .before .before .before .before .before .before .before .before .before .before .before .before .before .before .before .before .before .before .before .pre .0)) (c .before .before .before .before .before .before .before .before .before .before .before .before .before .before .before .next .ensures) (c .before .before .before .before .before .before .before .before .before .before .before .before .before .before .before .before .before .moment-at .result .owner) refl (c .before .before .before .before .before .before .before .before .before .before .before .before .before .if2 .taken) _ (getD-any (c .before .before .before .before .before .before .before .before .before .before .before .before .before .before .before .before .before .before .before .before .before .loop .tbs) (c .before .before .before .before .before .before .before .before .before .before .before .before .before .before .before .before .before .moment-at .result .owner) _ unusedTb (omega (arith, (c .before .before .before .before .before .before .before .before .before .before .before .before .before .before .before .before .before .before .before .before .before .loop .inv .loop) .now .ts-size, (c .before .before .before .before .before .before .before .before .before .before .before .before .before .if2 .taken)))) _ _ (⊎-elim (λ s. scanned-fed _ _ _ _ ((c .before .before .before .before .before .before .before .before .before .before .before .before .before .before .before .before .before .before .before .before .before .loop .inv .loop) .now .ss-size) (c .before .before .before .before .before .before .before .before .before .before .before .before .before .if2 .taken) _ (getD-any (c .before .before .before .before .before .before .before .before .before .before .before .before .before .before .before .before .before .before .before .before .before .loop .scanners) (c .before .before .before .before .before .before .before .before .before .before .before .before .before .before .before .before .before .moment-at .result .owner) _ idle (omega (arith, (c .before .before .before .before .before .before .before .before .before .before .before .before .before .before .before .before .before .before .before .before .before .loop .inv .loop) .now .ss-size, (c .before .before .before .before .before .before .before .before .before .before .before .before .before .if2 .taken)))) _ (c .before .before .before .before .before .before .before .before .before .before .scans .ensures) (s .0 .taken) _ (getD-any (c .before .before .before .before .before .before .before .before .before .before .before .before .before .before .before .before .before .before .before .before .before .loop .scanners) (c .before .before .before .before .before .before .before .before .before .before .before .before .before .before .before .before .before .moment-at .result .owner) _ idle (omega (arith, (c .before .before .before .before .before .before .before .before .before .before .before .before .before .before .before .before .before .before .before .before .before .loop .inv .loop) .now .ss-size, (c .before .before .before .before .before .before .before .before .before .before .before .before .before .if2 .taken)))) _ (s .2 .ensures) _ _ (s .5) (s .6)) (λ s. scanned-kept _ _ _ _ ((c .before .before .before .before .before .before .before .before .before .before .before .before .before .before .before .before .before .before .before .before .before .loop .inv .loop) .now .ss-size) (c .before .before .before .before .before .before .before .before .before .before .before .before .before .if2 .taken) _ (getD-any (c .before .before .before .before .before .before .before .before .before .before .before .before .before .before .before .before .before .before .before .before .before .loop .scanners) (c .before .before .before .before .before .before .before .before .before .before .before .before .before .before .before .before .before .moment-at .result .owner) _ idle (omega (arith, (c .before .before .before .before .before .before .before .before .before .before .before .before .before .before .before .before .before .before .before .before .before .loop .inv .loop) .now .ss-size, (c .before .before .before .before .before .before .before .before .before .before .before .before .before .if2 .taken)))) _ (c .before .before .before .before .before .before .before .before .before .before .scans .ensures) (s .0 .left) _ _ (s .1) (s .2 ∙ c .before .before .before .before .before .before .before .before .before .before .before .unfed .ensures)) (c .before .before .before .before .before .before .before .before .before .if3 .came)) _ _ (c .before .before .before .before .before .front .ensures) _ (getD-any (c .before .before .before .before .before .before .before .before .before .before .before .before .before .before .before .before .before .before .before .before .before .before .before .before .before .before .before .before .before .models .result) (c .before .before .before .before .before .before .before .before .before .before .before .before .before .before .before .before .before .moment-at .result .owner) _ unusedModel (omega (arith, (c .before .before .before .before .before .before .before .before .before .before .before .before .before .before .before .before .before .before .before .before .before .before .before .before .before .before .before .before .before .models .ensures) .size, (c .before .before .before .before .before .before .before .before .before .before .before .before .before .if2 .taken))) ∙ (c .before .before .before .before .before .before .before .before .before .before .before .before .before .before .before .before .before .before .before .before .before .before .before .before .before .before .before .before .before .models .ensures) .at (c .before .before .before .before .before .before .before .before .before .before .before .before .before .before .before .before .before .moment-at .result .owner) (c .before .before .before .before .before .before .before .before .before .before .before .before .before .if2 .taken)) _ _ _ refl _ (v .11) (v .0 .taken) _ (getD-any (c .before .before .before .before .before .before .before .before .before .before .before .before .before .before .before .before .before .before .before .before .before .loop .videos) (c .before .before .before .before .before .before .before .before .before .before .before .before .before .before .before .before .before .moment-at .result .owner) _ video-work.newBranch (omega (arith, (c .before .before .before .before .before .before .before .before .before .before .before .before .before .before .before .before .before .before .before .before .before .loop .inv .loop) .now .vs-size, (c .before .before .before .before .before .before .before .before .before .before .before .before .before .if2 .taken)))) _ (v .7 .ensures) _ (c .if5 .taken) (sym (v .16) ∙ c .if5 .taken) refl refl)
+    (λ v. main-refuses _ (c .before .before .before .before .before .before .before .before .before .before .before .before .before .before .before .before .before .before .before .before .before .loop .inv .ready) _ _ _ _ _ _ _ _ _ _ _ (c .before .before .before .before .before .before .before .before .before .before .before .before .before .before .before .before .before .before .before .before .before .loop .inv .loop) (c .before .before .before .before .before .before .before .before .before .before .before .before .before .before .before .before .before .before .before .if1 .taken) _ _ _ (c .before .before .before .before .before .before .before .before .before .before .before .before .before .before .before .before .before .before .window-at .ensures) _ (c .before .before .before .before .before .before .before .before .before .before .before .before .before .before .before .before .before .before .before .before .before .before .before .before .before .before .before .before .before .before .before .pids .ensures) (c .before .before .before .before .before .before .before .before .before .before .before .before .before .before .before .before .before .moment-at .ensures) _ (one-more _ (c .before .before .before .before .before .before .before .before .before .before .before .before .before .before .before .before .before .before .before .before .before .before .before .before .before .before .before .before .before .before .before .before .before .before .before .before .before .pre .0)) (c .before .before .before .before .before .before .before .before .before .before .before .before .before .before .before .next .ensures) (c .before .before .before .before .before .before .before .before .before .before .before .before .before .before .before .before .before .moment-at .result .owner) refl (c .before .before .before .before .before .before .before .before .before .before .before .before .before .if2 .taken) _ (getD-any (c .before .before .before .before .before .before .before .before .before .before .before .before .before .before .before .before .before .before .before .before .before .loop .tbs) (c .before .before .before .before .before .before .before .before .before .before .before .before .before .before .before .before .before .moment-at .result .owner) _ unusedTb (omega (arith, (c .before .before .before .before .before .before .before .before .before .before .before .before .before .before .before .before .before .before .before .before .before .loop .inv .loop) .now .ts-size, (c .before .before .before .before .before .before .before .before .before .before .before .before .before .if2 .taken)))) _ _ (⊎-elim (λ s. scanned-fed _ _ _ _ ((c .before .before .before .before .before .before .before .before .before .before .before .before .before .before .before .before .before .before .before .before .before .loop .inv .loop) .now .ss-size) (c .before .before .before .before .before .before .before .before .before .before .before .before .before .if2 .taken) _ (getD-any (c .before .before .before .before .before .before .before .before .before .before .before .before .before .before .before .before .before .before .before .before .before .loop .scanners) (c .before .before .before .before .before .before .before .before .before .before .before .before .before .before .before .before .before .moment-at .result .owner) _ idle (omega (arith, (c .before .before .before .before .before .before .before .before .before .before .before .before .before .before .before .before .before .before .before .before .before .loop .inv .loop) .now .ss-size, (c .before .before .before .before .before .before .before .before .before .before .before .before .before .if2 .taken)))) _ (c .before .before .before .before .before .before .before .before .before .before .scans .ensures) (s .0 .taken) _ (getD-any (c .before .before .before .before .before .before .before .before .before .before .before .before .before .before .before .before .before .before .before .before .before .loop .scanners) (c .before .before .before .before .before .before .before .before .before .before .before .before .before .before .before .before .before .moment-at .result .owner) _ idle (omega (arith, (c .before .before .before .before .before .before .before .before .before .before .before .before .before .before .before .before .before .before .before .before .before .loop .inv .loop) .now .ss-size, (c .before .before .before .before .before .before .before .before .before .before .before .before .before .if2 .taken)))) _ (s .2 .ensures) _ _ (s .5) (s .6)) (λ s. scanned-kept _ _ _ _ ((c .before .before .before .before .before .before .before .before .before .before .before .before .before .before .before .before .before .before .before .before .before .loop .inv .loop) .now .ss-size) (c .before .before .before .before .before .before .before .before .before .before .before .before .before .if2 .taken) _ (getD-any (c .before .before .before .before .before .before .before .before .before .before .before .before .before .before .before .before .before .before .before .before .before .loop .scanners) (c .before .before .before .before .before .before .before .before .before .before .before .before .before .before .before .before .before .moment-at .result .owner) _ idle (omega (arith, (c .before .before .before .before .before .before .before .before .before .before .before .before .before .before .before .before .before .before .before .before .before .loop .inv .loop) .now .ss-size, (c .before .before .before .before .before .before .before .before .before .before .before .before .before .if2 .taken)))) _ (c .before .before .before .before .before .before .before .before .before .before .scans .ensures) (s .0 .left) _ _ (s .1) (s .2 ∙ c .before .before .before .before .before .before .before .before .before .before .before .unfed .ensures)) (c .before .before .before .before .before .before .before .before .before .if3 .came)) _ _ (c .before .before .before .before .before .front .ensures) _ (getD-any (c .before .before .before .before .before .before .before .before .before .before .before .before .before .before .before .before .before .before .before .before .before .before .before .before .before .before .before .before .before .models .result) (c .before .before .before .before .before .before .before .before .before .before .before .before .before .before .before .before .before .moment-at .result .owner) _ unusedModel (omega (arith, (c .before .before .before .before .before .before .before .before .before .before .before .before .before .before .before .before .before .before .before .before .before .before .before .before .before .before .before .before .before .models .ensures) .size, (c .before .before .before .before .before .before .before .before .before .before .before .before .before .if2 .taken))) ∙ (c .before .before .before .before .before .before .before .before .before .before .before .before .before .before .before .before .before .before .before .before .before .before .before .before .before .before .before .before .before .models .ensures) .at (c .before .before .before .before .before .before .before .before .before .before .before .before .before .before .before .before .before .moment-at .result .owner) (c .before .before .before .before .before .before .before .before .before .before .before .before .before .if2 .taken)) _ _ _ refl _ (v .11) (v .0 .left) _ (getD-any (c .before .before .before .before .before .before .before .before .before .before .before .before .before .before .before .before .before .before .before .before .before .loop .mains) (c .before .before .before .before .before .before .before .before .before .before .before .before .before .before .before .before .before .moment-at .result .owner) _ main-work.newBranch (omega (arith, (c .before .before .before .before .before .before .before .before .before .before .before .before .before .before .before .before .before .before .before .before .before .loop .inv .loop) .now .ms-size, (c .before .before .before .before .before .before .before .before .before .before .before .before .before .if2 .taken)))) _ (v .7 .ensures) _ (c .if5 .taken) (sym (v .16) ∙ c .if5 .taken) refl refl)
     (c .before .if4 .came)
 
 same-length-2 : tie.Need-same-length-2 Inv-loop μ-loop
@@ -274,7 +274,7 @@ run-spec =
     next-requires
     mul-known
     array-copy-out-known
-    content-requires
+    unfed-requires
     scans-requires
     mul-before
     array-copy-out-before
