@@ -15,10 +15,10 @@ use std::time::{Duration, Instant};
 
 const SECOND: u64 = 27_000_000;
 
-struct Input {
-    name: String,
-    bytes: Vec<u8>,
-    profile: Profile,
+pub struct Input {
+    pub name: String,
+    pub bytes: Vec<u8>,
+    pub profile: Profile,
 }
 
 fn video(pid: u16, rx: u64, rbx: u64, mb: u64, eb: u64) -> Stream {
@@ -81,6 +81,19 @@ fn refused(megabytes: usize, videos: u16, queue_depth: usize) -> Input {
     input
 }
 
+/// Units on video PIDs as in `made_up`, but a share of the packets has lost its sync byte and does not parse.
+fn without_sync(videos: u16, percent: u64) -> Input {
+    let mut input = made_up(1, videos, false, 8_192);
+    let mut rng = Rng::new(percent);
+    for (k, packet) in input.bytes.chunks_exact_mut(188).enumerate() {
+        if k >= 8 && k % 40 != 0 && rng.percent(percent) {
+            packet[0] = 0;
+        }
+    }
+    input.name = format!("made-up, {percent} % of the packets without a sync byte, 1 MB");
+    input
+}
+
 /// Header bytes only into an EB of two bytes: about a turn of the leak a byte. The one payload byte waits in the
 /// transport buffer behind a burst and is removed when `stamp` says; removed just as it begins to come in, it leaves
 /// room for little more than one byte from then on.
@@ -119,14 +132,14 @@ fn short_unit(stamp: u64, payload: usize) -> [u8; 188] {
     packet
 }
 
-struct Times {
-    rust: f64,
-    ours: f64,
-    runs: u32,
+pub struct Times {
+    pub rust: f64,
+    pub ours: f64,
+    pub runs: u32,
 }
 
 /// Least seconds of each side, in turn, for at least `least` runs and about `budget`.
-fn alternate(input: &Input, m: &mut Memory, least: u32, budget: Duration) -> Result<Times, String> {
+pub fn alternate(input: &Input, m: &mut Memory, least: u32, budget: Duration) -> Result<Times, String> {
     let words = input.profile.words();
     let lent = Lengths::exact(input.profile.needed());
     let want = expect::expected(&input.bytes, &words, lent)?;
@@ -150,19 +163,23 @@ fn alternate(input: &Input, m: &mut Memory, least: u32, budget: Duration) -> Res
     Ok(t)
 }
 
-fn show(input: &Input, t: &Times) {
+pub fn line(input: &Input, t: &Times) -> String {
     let size = rules::layout(&input.bytes).map_or(188, |g| g.0);
     let packets = (input.bytes.len() / size) as f64;
-    println!(
-        "  {}: Rust {:.1} ns a packet, ours {:.1}, Rust/ours {:.2} ({} packets, {} runs each; {})",
+    format!(
+        "{}: Rust {:.1} ns a packet, ours {:.1}, ours/Rust {:.2} ({} packets, {} runs each; {})",
         input.name,
         t.rust * 1e9 / packets,
         t.ours * 1e9 / packets,
-        t.rust / t.ours,
+        t.ours / t.rust,
         packets,
         t.runs,
         input.profile.about()
-    );
+    )
+}
+
+fn show(input: &Input, t: &Times) {
+    println!("  {}", line(input, t));
 }
 
 /// Least seconds of a plain fill of the lent work.
@@ -243,6 +260,9 @@ pub fn run(quick: bool) -> Result<(), String> {
     inputs.extend([6, 7, 8].map(|videos| no_stream(1, videos, 8_192, 500)));
     inputs.push(no_stream(2, 8, 8_192, 500));
     inputs.extend([2, 8].map(|videos| refused(1, videos, 8_192)));
+    for videos in [1, 2, 8] {
+        inputs.extend([1, 25, 50, 75, 100].map(|percent| without_sync(videos, percent)));
+    }
     for input in &inputs {
         show(input, &alternate(input, &mut m, 5, budget)?);
     }

@@ -17,6 +17,7 @@ mod rng;
 mod rules;
 mod rust;
 mod sample;
+mod slowest;
 #[cfg(feature = "standin")]
 mod standin;
 #[cfg(all(feature = "standin", feature = "leaves"))]
@@ -29,7 +30,7 @@ use std::process::ExitCode;
 
 const USAGE: &str = "usage: compare COMMAND [--seed N] [--count N] [--quick]
   fuzz [--part] | figures | limits | blind | streams | damage | leaves | line PROGRAM | lines FILE | all [--no-streams]
-  bench | one FILE.profile FILE.ts | sample FILE";
+  bench | slowest | one FILE.profile FILE.ts | sample FILE";
 
 /// `--name value` among the arguments, or a default.
 fn option(args: &[String], name: &str, default: u64) -> Result<u64, String> {
@@ -54,6 +55,7 @@ fn run(args: &[String]) -> Result<(), String> {
         "streams" => streams::run(),
         "damage" => streams::damaged(seed, option(args, "--count", 20_000)?),
         "bench" => bench::run(quick),
+        "slowest" => slowest::run(seed, option(args, "--count", 300)?),
         "sample" if args.len() > 1 => sample::run(&args[1], seed, option(args, "--count", 300)? as usize),
         "all" => all(seed, quick, !args.iter().any(|a| a == "--no-streams")),
         "leaves" => leaves::run(seed, option(args, "--count", 1_000_000)?),
