@@ -182,8 +182,8 @@ module _ (l : List ℕ) (size count : ℕ) (c : Times) (at₀ k₀ : ℕ) where
     same : SameInterval (u .times .arrival)
     same = record { position = rw (u .end-is) position; before = rw (u .end-is, u .cursor-kept) before }
 
-    begin-at : (b : Bool) → ltb k₀ k ≡ b → k₀ + 1 < k + 1 → u .times .arrival .t1 ≡ timeOf (c .arrival .cursor .interval) (end + 188 - 188)
-    begin-at b z p =
+    begin-at : k₀ + 1 < k + 1 → u .times .arrival .t1 ≡ timeOf (c .arrival .cursor .interval) (end + 188 - 188)
+    begin-at p =
         let e : end + 188 - 188 ≡ end = omega arith in
         rw e (u .ends (omega arith))
 
@@ -200,7 +200,7 @@ module _ (l : List ℕ) (size count : ℕ) (c : Times) (at₀ k₀ : ℕ) where
           none = λ p. absurd (omega arith);
           some = λ p. omega arith;
           begins-first = λ p. ap (λ (z : Times). z .arrival .t1) (u .none (omega arith));
-          begins = λ p. begin-at (ltb k₀ k) refl p;
+          begins = begin-at;
           ends = λ p. rw (u .end-is, u .cursor-kept) refl;
         }
 
