@@ -27,6 +27,8 @@ enum Kind {
     Others,
     /// A PID of nobody, with an adaptation field.
     OtherField,
+    /// The same with all parts of a field: PCR, OPCR, countdown, private data, extension.
+    OtherParts,
     System,
     /// A stream's payload without a unit start.
     Content,
@@ -34,6 +36,8 @@ enum Kind {
     Short,
     /// A stream's adaptation field alone.
     NoPayload,
+    /// A stream's payload behind a field with all parts.
+    Parts,
     /// A stream's unit begins, with a stamp.
     Stamped,
     /// The same without a stamp.
@@ -46,15 +50,17 @@ enum Kind {
     Overlong,
 }
 
-const PARSED: [Kind; 11] = [
+const PARSED: [Kind; 13] = [
     Kind::Null,
     Kind::Other,
     Kind::Others,
     Kind::OtherField,
+    Kind::OtherParts,
     Kind::System,
     Kind::Content,
     Kind::Short,
     Kind::NoPayload,
+    Kind::Parts,
     Kind::Stamped,
     Kind::Unstamped,
     Kind::LongHeader,
@@ -136,6 +142,8 @@ impl Plan {
             Kind::Other => head(500, false, 1, k as u8),
             Kind::Others => head(1_000 + rng.below(3_000) as u16, false, 1, k as u8),
             Kind::OtherField => field(head(500 + (k % 3) as u16, false, 3, k as u8), 1),
+            Kind::OtherParts => parts(head(500 + (k % 3) as u16, false, 3, k as u8)),
+            Kind::Parts => parts(head(pid, false, 3, k as u8)),
             Kind::System => head(16 + (k % self.system.max(1)) as u16, false, 1, k as u8),
             Kind::Content => head(pid, false, 1, k as u8),
             Kind::Short => field(head(pid, false, 3, k as u8), 183 - (k % 20) as u8),
@@ -174,6 +182,17 @@ impl Plan {
 
 fn field(mut packet: [u8; 188], length: u8) -> [u8; 188] {
     (packet[4], packet[5]) = (length, 0);
+    packet
+}
+
+/// An adaptation field of 40 bytes with every part that table 2-6 has: PCR, OPCR, splice_countdown, four bytes of
+/// private data and an extension with its three fields.
+fn parts(mut packet: [u8; 188]) -> [u8; 188] {
+    (packet[4], packet[5]) = (40, 0x1f);
+    packet[6..18].fill(0);
+    packet[18] = 5;
+    (packet[19], packet[20]) = (4, 0);
+    (packet[24], packet[25]) = (11, 0xe0);
     packet
 }
 
