@@ -3,6 +3,7 @@ pub mod Rest
 pub mod ClockKept
 pub mod ChainIs
 pub mod Moments
+pub mod Owning
 pub mod Skipping
 pub mod Streams
 pub mod Rows

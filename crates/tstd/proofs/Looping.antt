@@ -49,8 +49,9 @@ use Rattle.tstd.specs.declared.front.SystemChain.{SystemChain}
 use Rattle.tstd.specs.declared.stream.StreamModel.{StreamModel}
 use Rattle.tstd.specs.declared.run.Ran.{Ran as RanState}
 use Rattle.tstd.specs.InWork.{streamModel, unusedTb, TbsOf}
-use Rattle.tstd.specs.Moments.{ownerIndex, packetMoment, momentOf, startTimes, nextTimes, BufferOf, FrontOf, newSystem, systemRun, systemPushed}
-use Rattle.tstd.specs.Skips.{FreeOf, IsFree, IsUnparsed, SameInterval, freeTimes, unparsedTimes, windowAt, Passing, no-more, one-free, one-unparsed, Skips}
+use Rattle.tstd.specs.Owners.{ownerIndex, OwnersOf}
+use Rattle.tstd.specs.Moments.{packetMoment, momentOf, startTimes, nextTimes, BufferOf, FrontOf, newSystem, systemRun, systemPushed}
+use Rattle.tstd.specs.Skips.{IsFree, IsUnparsed, SameInterval, freeTimes, unparsedTimes, windowAt, Passing, no-more, one-free, one-unparsed, Skips}
 use Rattle.tstd.specs.Run.{Pass, streamCount, depthOf, clockFrom, Ready, whole, Reached, before-all, one-more, At, RanTo}
 use Rattle.tstd.proofs.ChainIs.{new-is, StepIs, main-steps, video-steps}
 use Rattle.tstd.proofs.Going.{Going, going-starts, going-next, step-refused, going-done}
@@ -175,8 +176,8 @@ module _ (g : Pass) (ready : Ready g) (k at : ℕ) (isFull : Bool) (w : List Flo
       })
 
 -- packets that no chain takes, behind one another
-module _ (g : Pass) (ready : Ready g) (isFull : Bool) (w : List Float) (ts : List FluidFifo) (ss : List PesScanner) (ms : List MainBranch) (vs : List VideoBranch) (system : SystemChain) (sl : Slots) (free : List Bool)
-    (is-free : FreeOf (pidsOf (g .config)) free) where
+module _ (g : Pass) (ready : Ready g) (isFull : Bool) (w : List Float) (ts : List FluidFifo) (ss : List PesScanner) (ms : List MainBranch) (vs : List VideoBranch) (system : SystemChain) (sl : Slots) (owners : List ℕ)
+    (is-owners : OwnersOf (pidsOf (g .config)) owners) where
   header-at : (k at : ℕ) {t : Times} (L : Looping g ready k at isFull w ts ss ms vs system t sl) (x : PacketHeader) → headerOf (parseOf (windowAt (g .recording) at)) ≡ x
       → headerOf (parseOf (packetAt (g .layout) (g .recording) k)) ≡ x
   header-at k at L x e = ap (λ (l : List ℕ). headerOf (parseOf l)) (sym (window-is g k at (L .placed))) ∙ e
@@ -184,11 +185,11 @@ module _ (g : Pass) (ready : Ready g) (isFull : Bool) (w : List Float) (ts : Lis
   abbrev freeMoment : Bool → ℕ → Moment
   freeMoment bit start = record { end = false; parsed = true; owner = 9; «payload_start» = start; «payload_unit_start» = bit }
 
-  free-turns : (k at : ℕ) (t : Times) (L : Looping g ready k at isFull w ts ss ms vs system t sl) → k < g .count → SameInterval (t .arrival) → IsFree free (windowAt (g .recording) at)
+  free-turns : (k at : ℕ) (t : Times) (L : Looping g ready k at isFull w ts ss ms vs system t sl) → k < g .count → SameInterval (t .arrival) → IsFree owners (windowAt (g .recording) at)
       → Turned g ready k (L .state) w ts ss ms vs system (freeTimes t) sl
   free-turns k at t L h i x =
       let q = parsed-packet _ (header-at k at L _ (x .header)) in
-      let o : ownerOf (g .config) (q .packet .pid) ≡ Owner.Nobody = rw (← q .pid-is) (sym (pids-owner (g .config) (x .pid)) ∙ is-free .nobodys (x .pid) (x .small) (x .nobodys)) in
+      let o : ownerOf (g .config) (q .packet .pid) ≡ Owner.Nobody = rw (← q .pid-is) (sym (pids-owner (g .config) (x .pid)) ∙ is-owners .nobodys (x .pid) (x .small) (x .nobodys)) in
       let m = freeMoment (q .packet .«payload_unit_start») (q .packet .«payload_start») in
       let p : PacketIs g k m = record { packet = q .packet; parse = q .is; moment = rw o refl } in
       let next : freeTimes t ≡ nextTimes m (nextArrival w (clockFrom g) (g .places) (suc (g .last)) (t .arrival)) t =
@@ -207,7 +208,7 @@ module _ (g : Pass) (ready : Ready g) (isFull : Bool) (w : List Float) (ts : Lis
       ∙ rw (within-next w (clockFrom g) (g .places) (suc (g .last)) (t .arrival) i) refl) in
       unparsed-turns g ready k w ts ss ms vs system t (unparsedTimes t) sl (L .state) m (L .now) next h (unparsed-fails _ (header-at k at L _ (x .header))) refl refl
 
-  pub skips-loop : {c t : Times} {at₀ k₀ at k : ℕ} → Passing (g .recording) (g .layout .«packet_size») (g .count) free c at₀ k₀ t at k
+  pub skips-loop : {c t : Times} {at₀ k₀ at k : ℕ} → Passing (g .recording) (g .layout .«packet_size») (g .count) owners c at₀ k₀ t at k
       → Looping g ready (k₀ + 1) (at₀ + g .layout .«packet_size») isFull w ts ss ms vs system c sl
       → Looping g ready (k + 1) (at + g .layout .«packet_size») isFull w ts ss ms vs system t sl
   skips-loop no-more L = L
@@ -232,8 +233,8 @@ module _ (g : Pass) (ready : Ready g) (k at : ℕ) (isFull : Bool) (w : List Flo
   pub moved-none : (at' k' : ℕ) → at' ≡ at → k' ≡ k → Moved at' k'
   moved-none at' k' e f = record { at-few = rw e (at-small g ready k at (inv .placed) h); forward = omega arith; inside = omega arith }
 
-  pub moved-skip : {l : List ℕ} {size : ℕ} {free : List Bool} {c t : Times} {a b : ℕ} → Skips l size (g .count) free c at k t a b → (at' k' : ℕ) → at' ≡ a → k' ≡ b → Moved at' k'
-  moved-skip {l} {size} {free} {c} {t} {a} {b} s at' k' e f =
+  pub moved-skip : {l : List ℕ} {size : ℕ} {owners : List ℕ} {c t : Times} {a b : ℕ} → Skips l size (g .count) owners c at k t a b → (at' k' : ℕ) → at' ≡ a → k' ≡ b → Moved at' k'
+  moved-skip {l} {size} {owners} {c} {t} {a} {b} s at' k' e f =
       record { at-few = rw e (s .at-few); forward = rw f (s .forward); inside = rw f (by-test (ltb k b) refl) }
     where
       by-test : (x : Bool) → ltb k b ≡ x → b < g .count + streamCount g
@@ -275,8 +276,8 @@ module _ (g : Pass) (ready : Ready g) (k at : ℕ) (isFull : Bool) (w : List Flo
       idle-turn = by-moment moment
 
       -- with the packets behind it that no chain takes
-      module _ (free : List Bool) (is-free : FreeOf pids free) where
-        pub skip-again : {t : Times} {at' k' : ℕ} → Skips (g .recording) (g .layout .«packet_size») (g .count) free times' at k t at' k'
+      module _ (owners : List ℕ) (is-owners : OwnersOf pids owners) where
+        pub skip-again : {t : Times} {at' k' : ℕ} → Skips (g .recording) (g .layout .«packet_size») (g .count) owners times' at k t at' k'
             → (w₂ : List Float) (ts₂ : List FluidFifo) (ss₂ : List PesScanner) (ms₂ : List MainBranch) (vs₂ : List VideoBranch) (system₂ : SystemChain) (firsts₂ : List ℕ) (figures₂ : List Float) (full₂ : Bool)
             → w₂ ≡ w → ts₂ ≡ ts → ss₂ ≡ ss → ms₂ ≡ ms → vs₂ ≡ vs → system₂ ≡ system → slots firsts₂ figures₂ ≡ sl → full₂ ≡ isFull
             → LoopInv g (k' + 1) (at' + g .layout .«packet_size») full₂ w₂ ts₂ ss₂ ms₂ vs₂ system₂ t (slots firsts₂ figures₂)
@@ -284,7 +285,7 @@ module _ (g : Pass) (ready : Ready g) (k at : ℕ) (isFull : Bool) (w : List Flo
             record {
               ready = ready;
               loop = rw (ew, et, ez, em, ev, es, el)
-                  (skips-loop g ready full₂ w ts ss ms vs system sl free (rw (← is-pids) is-free) (x .passing) (loop-next g ready k at isFull w ts ss ms vs system times sl inv h w ts ss ms vs system times' sl full₂ (ef ∙ inv .not-full) idle-turn));
+                  (skips-loop g ready full₂ w ts ss ms vs system sl owners (rw (← is-pids) is-owners) (x .passing) (loop-next g ready k at isFull w ts ss ms vs system times sl inv h w ts ss ms vs system times' sl full₂ (ef ∙ inv .not-full) idle-turn));
             }
 
     -- a packet of the system chain

@@ -11,10 +11,11 @@ use Rattle.ieee.specs.MaxMin.{maxOf, minOf}
 use Rattle.packet.specs.Packet.{parseOf}
 use Rattle.header.specs.declared.PacketHeader.{PacketHeader}
 use Rattle.header.specs.Header.{headerOf}
+use Rattle.header.proofs.Headers.{parsed-packet}
+use Rattle.packet.proofs.Parsed as packet-bounds
 use Rattle.arrival.specs.declared.PacketArrival.{PacketArrival}
 use Rattle.branch.specs.declared.Delivered.{Delivered}
 use Rattle.fifo.specs.declared.FluidFifo.{FluidFifo}
-use Rattle.profile.specs.declared.owner.Owner.{Owner}
 use Rattle.profile.specs.declared.owner.Pids.{Pids}
 use Rattle.profile.specs.Owner.{ownerBy}
 use Rattle.events.specs.Event.{when, tbOverflow, tbBusy, kindOf, figureOf, decodeOf}
@@ -27,7 +28,8 @@ use Rattle.transport.specs.Transport.{stampAnswer}
 use Rattle.model.specs.Chain.{tbEvents}
 use Rattle.tstd.specs.declared.moment.Moment.{Moment}
 use Rattle.tstd.specs.declared.moment.Times.{Times}
-use Rattle.tstd.specs.Moments.{ownerIndex, packetMoment, endMoment, momentOf, nextTimes, BufferOf}
+use Rattle.tstd.specs.Owners.{ownerIndex}
+use Rattle.tstd.specs.Moments.{packetMoment, endMoment, momentOf, nextTimes, BufferOf}
 
 -- ---- the moment of step k
 
@@ -45,10 +47,16 @@ module _ (p : Pids) (w : List ℕ) (count k : ℕ) where
       → momentOf p w count k ≡ packetMoment p PacketHeader.Unparsed
   moment-unparsed x h r e = moment-packet h ∙ ap (packetMoment p) (sym r ∙ e)
 
-  pub moment-parsed : (x : PacketHeader) (pid start : ℕ) (bit : Bool) (o : Owner) (i : ℕ) → k < count → x ≡ headerOf (parseOf w) → x ≡ PacketHeader.Parsed pid bit start
-      → o ≡ ownerBy p pid → i ≡ ownerIndex o
+  pub moment-parsed : (x : PacketHeader) (pid start : ℕ) (bit : Bool) (i : ℕ) → k < count → x ≡ headerOf (parseOf w) → x ≡ PacketHeader.Parsed pid bit start
+      → i ≡ ownerIndex (ownerBy p pid)
       → momentOf p w count k ≡ record { end = false; parsed = true; owner = i; «payload_start» = start; «payload_unit_start» = bit }
-  moment-parsed x pid start bit o i h r e f g = moment-packet h ∙ (ap (packetMoment p) (sym r ∙ e) ∙ rw (g, f))
+  moment-parsed x pid start bit i h r e g = moment-packet h ∙ (ap (packetMoment p) (sym r ∙ e) ∙ rw g)
+
+-- a PID has 13 bits
+pub pid-small : (w : List ℕ) (x : PacketHeader) (pid start : ℕ) (bit : Bool) → x ≡ headerOf (parseOf w) → x ≡ PacketHeader.Parsed pid bit start → pid < 8192
+pid-small w x pid start bit r e =
+    let q = parsed-packet (parseOf w) (sym r ∙ e) in
+    rw (q .pid-is) (packet-bounds.parsed w (q .packet) (q .is) .pid-small)
 
 -- ---- the times behind it
 

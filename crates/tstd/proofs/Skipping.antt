@@ -1,15 +1,14 @@
--- Packets behind one another that no chain takes: which PIDs are free, the header of such a packet, the arrival within an interval, and
+-- Packets behind one another that no chain takes: the header of such a packet, the arrival within an interval, and
 -- the stretch that is passed over. Assumes nothing.
-use Prim.Native.Nat.{ℕ, zero, suc, _+_, _-_, _*_, _/_, _%_, _^_, _≤_, _<_, min}
+use Prim.Native.Nat.{ℕ, _+_, _-_, _*_, _/_, _%_, _^_, _≤_, _<_}
 use native.Mathlib.Omega.{arith}
 use mathlib.Core.Path.{_≡_, refl, sym, ap, _∙_, subst}
-use mathlib.Core.Bool.{Bool, true, false, cond, true≢false}
-use mathlib.Core.List.{List, [], _∷_}
-use lib.ListN.{length, getD, take, drop, set, length-take}
-use lib.Seq.{getD-take, getD-set-other}
+use mathlib.Core.Bool.{Bool, true, false, cond}
+use mathlib.Core.List.{List, []}
+use lib.ListN.{length, getD, take, drop}
 use lib.Dec.{leb, eqb, ltb}
 use lib.Ieee.{Float}
-use borrow.Author.Tests.{le-leb, leb-true, ltb-true, ltb-false, ne-eqb, eqb-true, eqb-false}
+use borrow.Author.Tests.{le-leb, leb-true, ltb-true, ltb-false, eqb-true, eqb-false}
 use Rattle.syntax.proofs.Bytes.{Bytes}
 use Rattle.header.specs.declared.PacketHeader.{PacketHeader}
 use Rattle.header.proofs.Headers.{bare-header}
@@ -18,86 +17,14 @@ use Rattle.arrival.specs.declared.PacketArrival.{PacketArrival}
 use Rattle.arrival.specs.Work.{nextArrival}
 use Rattle.arrival.specs.Times.{timeOf}
 use Rattle.arrival.proofs.Cursors.{advance-here}
-use Rattle.profile.specs.declared.owner.Pids.{Pids}
-use Rattle.profile.specs.Owner.{contains}
-use Rattle.profile.proofs.Ownership.{owner-nobody}
 use Rattle.tstd.specs.declared.moment.Times.{Times}
-use Rattle.tstd.specs.Skips.{FreeBut, FreeOf, IsFree, IsUnparsed, SameInterval, nextWithin, freeTimes, unparsedTimes, windowAt, beginOf, Passing, no-more, one-free, one-unparsed, Skips, UnparsedTo}
-
--- ---- the free PIDs
-
-pub free-all : (before : List Bool) (pids : List ℕ) → FreeBut before pids 0 before
-free-all before pids = record { others = λ pid h e. (e, λ j l. absurd (omega arith)) }
-
-set-false : (l : List Bool) (i : ℕ) → getD (set l i false) i false ≡ false
-set-false [] i = refl
-set-false (x ∷ l) zero = refl
-set-false (x ∷ l) (suc i) = set-false l i
-
-module _ (before : List Bool) (pids : List ℕ) (n : ℕ) (free : List Bool) (m : FreeBut before pids n free) where
-  -- the last of n + 1 is not the PID either
-  last : (pid : ℕ) → (getD pids n 0 ≡ pid → ⊥) → ((i : ℕ) → i < n → getD pids i 0 ≡ pid → ⊥) → (j : ℕ) → j < n + 1 → (b : Bool) → ltb j n ≡ b → getD pids j 0 ≡ pid → ⊥
-  last pid g f j l true t q = f j (ltb-true j n t) q
-  last pid g f j l false t q =
-      let d : j ≡ n = (let x = ltb-false j n t in omega arith) in
-      g (ap (λ (z : ℕ). getD pids z 0) (sym d) ∙ q)
-
-  -- the next of them is not free
-  pub free-less : (p : ℕ) → getD pids n 0 ≡ p → FreeBut before pids (n + 1) (set free p false)
-  free-less p is =
-      record {
-        others = λ pid h e.
-            let x = m .others pid h (kept pid e) in
-            (x .0, λ j l q. last pid (λ r. other pid e (sym is ∙ r)) (x .1) j l (ltb j n) refl q);
-      }
-    where
-      other : (pid : ℕ) → getD (set free p false) pid false ≡ true → p ≡ pid → ⊥
-      other pid e q = true≢false (sym e ∙ (ap (λ (z : ℕ). getD (set free p false) z false) (sym q) ∙ set-false free p))
-
-      kept : (pid : ℕ) → getD (set free p false) pid false ≡ true → getD free pid false ≡ true
-      kept pid e = sym (getD-set-other free p pid false false (λ q. other pid e (sym q))) ∙ e
-
-  -- it is no PID of a packet
-  pub free-same : (p : ℕ) → 8192 ≤ p → getD pids n 0 ≡ p → FreeBut before pids (n + 1) free
-  free-same p large is =
-      record {
-        others = λ pid h e.
-            let x = m .others pid h e in
-            (x .0, λ j l q. last pid (λ r. differ pid h (sym is ∙ r)) (x .1) j l (ltb j n) refl q);
-      }
-    where
-      differ : (pid : ℕ) → pid < 8192 → p ≡ pid → ⊥
-      differ pid h e = omega arith
-
-contains-none : (l : List ℕ) (pid : ℕ) → ((j : ℕ) → j < length l → getD l j 0 ≡ pid → ⊥) → contains l pid ≡ false
-unfolding contains
-contains-none [] pid f = refl
-contains-none (p ∷ l) pid f =
-    rw (ne-eqb p pid (λ e. f 0 (omega arith) e), contains-none l pid (λ j h e. f (suc j) (omega arith) e))
-
--- none of the first n, of a list of as many places as are looked at
-take-none : (l : List ℕ) (n size pid : ℕ) → length l ≡ size → ((j : ℕ) → j < min n size → getD l j 0 ≡ pid → ⊥) → contains (take n l) pid ≡ false
-take-none l n size pid e f =
-    contains-none (take n l) pid
-    (λ j h q.
-    let near : j < min n (length l) = rw (length-take n l) at h in
-    f j (rw e at near) (sym (getD-take n l j 0 (omega arith)) ∙ q))
-
-pub free-of : (p : Pids) (x y z : List Bool) (n m : ℕ) → length (p .streams) ≡ 8 → length (p .system) ≡ 16 → n ≡ min (p .«stream_count») 8 → m ≡ min (p .«system_count») 16
-    → FreeBut x (p .streams) n y → FreeBut y (p .system) m z → FreeOf p z
-free-of p x y z n m s t en em a b =
-    record {
-      nobodys = λ pid h e.
-          let u = b .others pid h e in
-          let v = a .others pid h (u .0) in
-          owner-nobody _ _ pid (take-none (p .streams) (p .«stream_count») 8 pid s (λ j l. v .1 j (rw en l))) (take-none (p .system) (p .«system_count») 16 pid t (λ j l. u .1 j (rw em l)));
-    }
+use Rattle.tstd.specs.Skips.{IsFree, IsUnparsed, SameInterval, nextWithin, freeTimes, unparsedTimes, windowAt, beginOf, Passing, no-more, one-free, one-unparsed, Skips, UnparsedTo}
 
 -- ---- a packet that no chain takes
 
 -- a packet without an adaptation field, by its bytes
-pub free-header : (free : List Bool) (w : List ℕ) → Bytes w → 188 ≤ length w → getD w 0 0 ≡ 0x47 → (getD w 3 0 / 32 % 2 ≡ 1 → ⊥) → (pid : ℕ) → pid ≡ getD w 1 0 % 32 * 256 + getD w 2 0 → pid < 8192 → getD free pid false ≡ true → IsFree free w
-free-header free w h long s n pid e small f =
+pub free-header : (owners : List ℕ) (w : List ℕ) → Bytes w → 188 ≤ length w → getD w 0 0 ≡ 0x47 → (getD w 3 0 / 32 % 2 ≡ 1 → ⊥) → (pid : ℕ) → pid ≡ getD w 1 0 % 32 * 256 + getD w 2 0 → pid < 8192 → getD owners pid 0 ≡ 9 → IsFree owners w
+free-header owners w h long s n pid e small f =
     let bit = eqb (getD w 1 0 / 64 % 2) 1 in
     let start : ℕ = cond (eqb (getD w 3 0 / 16 % 2) 1) 4 188 in
     record { long = long; pid = pid; bit = bit; start = start; header = bare-header w h long s n ∙ ap (λ (z : ℕ). PacketHeader.Parsed z bit start) (sym e); small = small; nobodys = f }
@@ -110,8 +37,8 @@ within-next times from places n a s = rw (advance-here times from places n (a .c
 
 -- ---- the stretch that is passed over
 
-module _ (l : List ℕ) (size count : ℕ) (free : List Bool) (c : Times) (at₀ k₀ : ℕ) where
-  pub skips-none : at₀ ≤ 2 ^ 33 → k₀ ≤ 2 ^ 33 → Skips l size count free c at₀ k₀ c at₀ k₀
+module _ (l : List ℕ) (size count : ℕ) (owners : List ℕ) (c : Times) (at₀ k₀ : ℕ) where
+  pub skips-none : at₀ ≤ 2 ^ 33 → k₀ ≤ 2 ^ 33 → Skips l size count owners c at₀ k₀ c at₀ k₀
   skips-none h g = record { passing = no-more; at-few = h; forward = omega arith; k-few = g; in-packets = λ p. absurd (omega arith) }
 
   -- a window of 188 bytes lies in the recording
@@ -119,28 +46,28 @@ module _ (l : List ℕ) (size count : ℕ) (free : List Bool) (c : Times) (at₀
   within-bytes x true w e h = leb-true (x + 188) (length l) e
   within-bytes x false w e h = absurd (omega arith)
 
-  module _ (short : length l ≤ 2 ^ 24) (few : count ≤ 2 ^ 33) {t : Times} {at k : ℕ} (s : Skips l size count free c at₀ k₀ t at k) (h : k + 1 < count) (i : SameInterval (t .arrival)) where
-    more : {t' : Times} → 188 ≤ length (windowAt l (at + size)) → Passing l size count free c at₀ k₀ t' (at + size) (k + 1) → Skips l size count free c at₀ k₀ t' (at + size) (k + 1)
+  module _ (short : length l ≤ 2 ^ 24) (few : count ≤ 2 ^ 33) {t : Times} {at k : ℕ} (s : Skips l size count owners c at₀ k₀ t at k) (h : k + 1 < count) (i : SameInterval (t .arrival)) where
+    more : {t' : Times} → 188 ≤ length (windowAt l (at + size)) → Passing l size count owners c at₀ k₀ t' (at + size) (k + 1) → Skips l size count owners c at₀ k₀ t' (at + size) (k + 1)
     more long p =
         let inside : at + size + 188 ≤ length l = within-bytes (at + size) (leb (at + size + 188) (length l)) (take 188 (drop (at + size) l)) refl long in
         let f = s .forward in
         record { passing = p; at-few = omega arith; forward = omega arith; k-few = omega arith; in-packets = λ p. h }
 
-    pub skips-free : IsFree free (windowAt l (at + size)) → Skips l size count free c at₀ k₀ (freeTimes t) (at + size) (k + 1)
+    pub skips-free : IsFree owners (windowAt l (at + size)) → Skips l size count owners c at₀ k₀ (freeTimes t) (at + size) (k + 1)
     skips-free n = more (n .long) (one-free (s .passing) h i n)
 
-    pub skips-unparsed : IsUnparsed (windowAt l (at + size)) → Skips l size count free c at₀ k₀ (unparsedTimes t) (at + size) (k + 1)
+    pub skips-unparsed : IsUnparsed (windowAt l (at + size)) → Skips l size count owners c at₀ k₀ (unparsedTimes t) (at + size) (k + 1)
     skips-unparsed n = more (n .long) (one-unparsed (s .passing) h i n)
 
 -- one stretch behind the other
-passing-then : {l : List ℕ} {size count : ℕ} {free : List Bool} {c t u : Times} {at₀ k₀ at k at' k' : ℕ} → Passing l size count free c at₀ k₀ t at k → Passing l size count free t at k u at' k'
-    → Passing l size count free c at₀ k₀ u at' k'
+passing-then : {l : List ℕ} {size count : ℕ} {owners : List ℕ} {c t u : Times} {at₀ k₀ at k at' k' : ℕ} → Passing l size count owners c at₀ k₀ t at k → Passing l size count owners t at k u at' k'
+    → Passing l size count owners c at₀ k₀ u at' k'
 passing-then p no-more = p
 passing-then p (one-free q h i n) = one-free (passing-then p q) h i n
 passing-then p (one-unparsed q h i n) = one-unparsed (passing-then p q) h i n
 
-pub skips-then : {l : List ℕ} {size count : ℕ} {free : List Bool} {c t u : Times} {at₀ k₀ at k at' k' : ℕ} → Skips l size count free c at₀ k₀ t at k → Skips l size count free t at k u at' k'
-    → Skips l size count free c at₀ k₀ u at' k'
+pub skips-then : {l : List ℕ} {size count : ℕ} {owners : List ℕ} {c t u : Times} {at₀ k₀ at k at' k' : ℕ} → Skips l size count owners c at₀ k₀ t at k → Skips l size count owners t at k u at' k'
+    → Skips l size count owners c at₀ k₀ u at' k'
 skips-then {count = count} {k₀ = k₀} {k = k} {k' = k'} a b =
     let f = a .forward in
     let g = b .forward in
@@ -165,7 +92,7 @@ module _ (l : List ℕ) (size count : ℕ) (c : Times) (at₀ k₀ : ℕ) where
   unparsed-none h g =
       record {
         times = c;
-        skips = λ free. skips-none l size count free c at₀ k₀ h g;
+        skips = λ owners. skips-none l size count owners c at₀ k₀ h g;
         cursor-kept = refl;
         end-is = refl;
         first-kept = refl;
@@ -192,7 +119,7 @@ module _ (l : List ℕ) (size count : ℕ) (c : Times) (at₀ k₀ : ℕ) where
         let f = u .skips [] .forward in
         record {
           times = unparsedTimes (u .times);
-          skips = λ free. skips-unparsed l size count free c at₀ k₀ short few (u .skips free) h same n;
+          skips = λ owners. skips-unparsed l size count owners c at₀ k₀ short few (u .skips owners) h same n;
           cursor-kept = u .cursor-kept;
           end-is = ap (λ (z : ℕ). z + 188) (u .end-is);
           first-kept = u .first-kept;
@@ -218,9 +145,9 @@ module _ (l : List ℕ) (size count : ℕ) (c : Times) (at₀ k₀ : ℕ) where
     pub unparsed-end : 188 ≤ end
     unparsed-end = u .some further
 
-    pub unparsed-skips : (t0 t1 : Float) → t0 ≡ beginOf (c .arrival) end (eqb k (k₀ + 1)) → t1 ≡ timeOf (c .arrival .cursor .interval) end → (free : List Bool)
-        → Skips l size count free c at₀ k₀ (record { arrival = record { cursor = c .arrival .cursor; end = end; t0 = t0; t1 = t1 }; «first_time» = c .«first_time»; «last_time» = c .«last_time» }) at k
-    unparsed-skips t0 t1 e0 e1 free =
-        subst (λ (z : Times). Skips l size count free c at₀ k₀ z at k)
+    pub unparsed-skips : (t0 t1 : Float) → t0 ≡ beginOf (c .arrival) end (eqb k (k₀ + 1)) → t1 ≡ timeOf (c .arrival .cursor .interval) end → (owners : List ℕ)
+        → Skips l size count owners c at₀ k₀ (record { arrival = record { cursor = c .arrival .cursor; end = end; t0 = t0; t1 = t1 }; «first_time» = c .«first_time»; «last_time» = c .«last_time» }) at k
+    unparsed-skips t0 t1 e0 e1 owners =
+        subst (λ (z : Times). Skips l size count owners c at₀ k₀ z at k)
         (times-by (u .times) _ _ _ _ _ _ (u .cursor-kept) (u .end-is) (begin-is (eqb k (k₀ + 1)) refl ∙ sym e0) (u .ends further ∙ sym e1) (u .first-kept) (u .last-kept))
-        (u .skips free)
+        (u .skips owners)

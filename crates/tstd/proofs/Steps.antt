@@ -31,7 +31,8 @@ use Rattle.profile.proofs.Ownership.{pids-owner}
 use Rattle.model.specs.Chain.{endStep}
 use Rattle.model.specs.Replay.{State, running, streamAt, chainAt, streamsRead, stepped, factStep}
 use Rattle.tstd.specs.declared.moment.Moment.{Moment}
-use Rattle.tstd.specs.Moments.{ownerIndex, packetMoment, endMoment, momentOf}
+use Rattle.tstd.specs.Owners.{ownerIndex}
+use Rattle.tstd.specs.Moments.{packetMoment, endMoment, momentOf}
 use Rattle.tstd.specs.Run.{Pass, streamCount, depthOf, clockFrom, clockOf, Ready, stepOf}
 use Rattle.tstd.proofs.ClockKept.{packet-arrives}
 

@@ -20,7 +20,6 @@ use Rattle.scanner.specs.declared.PesScanner.{PesScanner}
 use Rattle.scanner.specs.declared.Runs.{Runs}
 use Rattle.scanner.specs.Unit.{Open}
 use Rattle.scanner.specs.State.{scannerOf, inHeader}
-use Rattle.profile.specs.declared.owner.Owner.{Owner}
 use Rattle.profile.specs.declared.owner.Pids.{Pids}
 use Rattle.profile.specs.Owner.{ownerBy}
 use Rattle.events.specs.Slots.{Slots, notedAll}
@@ -28,14 +27,10 @@ use Rattle.transport.specs.declared.Arrived.{Arrived}
 use Rattle.transport.specs.Arrive.{nothing, arriveIn}
 use Rattle.transport.specs.Transport.{stampAnswer, arrivedOf}
 use Rattle.model.specs.Chain.{tbEvents}
+use Rattle.tstd.specs.Owners.{ownerIndex}
 use Rattle.tstd.specs.declared.moment.Moment.{Moment}
 use Rattle.tstd.specs.declared.moment.Times.{Times}
 use Rattle.tstd.specs.declared.front.SystemChain.{SystemChain}
-
-abbrev pub ownerIndex : Owner → ℕ
-ownerIndex (Owner.Stream i) = i
-ownerIndex Owner.System = 8
-ownerIndex Owner.Nobody = 9
 
 abbrev pub packetMoment : Pids → PacketHeader → Moment
 packetMoment p PacketHeader.Unparsed = record { end = false; parsed = false; owner = 9; «payload_start» = 0; «payload_unit_start» = false }

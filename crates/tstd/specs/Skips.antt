@@ -1,7 +1,7 @@
 -- Packets behind one another that no chain takes, since they do not parse or are nobody's: what passing over them does to the times.
 use Prim.Native.Nat.{ℕ, _+_, _-_, _^_, _≤_, _<_}
 use mathlib.Core.Path.{_≡_}
-use mathlib.Core.Bool.{Bool, true, false, cond}
+use mathlib.Core.Bool.{Bool, cond}
 use mathlib.Core.List.{List, []}
 use lib.ListN.{length, getD, take, drop}
 use lib.Dec.{leb}
@@ -12,28 +12,17 @@ use Rattle.header.specs.declared.PacketHeader.{PacketHeader}
 use Rattle.header.specs.Header.{headerOf}
 use Rattle.arrival.specs.declared.PacketArrival.{PacketArrival}
 use Rattle.arrival.specs.Times.{timeOf}
-use Rattle.profile.specs.declared.owner.Owner.{Owner}
-use Rattle.profile.specs.declared.owner.Pids.{Pids}
-use Rattle.profile.specs.Owner.{ownerBy}
 use Rattle.tstd.specs.declared.moment.Times.{Times}
 
--- a PID that is free was free before, and is none of the first n
-pub record FreeBut (before : List Bool) (pids : List ℕ) (n : ℕ) (free : List Bool) : Type 0 where
-  pub others : (pid : ℕ) → pid < 8192 → getD free pid false ≡ true → (getD before pid false ≡ true) × ((j : ℕ) → j < n → getD pids j 0 ≡ pid → ⊥)
-
--- a PID that is free is nobody's
-pub record FreeOf (p : Pids) (free : List Bool) : Type 0 where
-  pub nobodys : (pid : ℕ) → pid < 8192 → getD free pid false ≡ true → ownerBy p pid ≡ Owner.Nobody
-
--- the bytes w are a packet of a free PID
-pub record IsFree (free : List Bool) (w : List ℕ) : Type 0 where
+-- the bytes w are a packet of nobody, by the table of owners
+pub record IsFree (owners : List ℕ) (w : List ℕ) : Type 0 where
   pub long : 188 ≤ length w
   pub pid : ℕ
   pub bit : Bool
   pub start : ℕ
   pub header : headerOf (parseOf w) ≡ PacketHeader.Parsed pid bit start
   pub small : pid < 8192
-  pub nobodys : getD free pid false ≡ true
+  pub nobodys : getD owners pid 0 ≡ 9
 
 -- they are a packet that does not parse
 pub record IsUnparsed (w : List ℕ) : Type 0 where
@@ -66,15 +55,15 @@ abbrev pub windowAt : List ℕ → ℕ → List ℕ
 windowAt l at = cond (leb (at + 188) (length l)) (take 188 (drop at l)) []
 
 -- from packet k₀ at at₀, with the times c behind it, to packet k at `at`
-pub data Passing (l : List ℕ) (size count : ℕ) (free : List Bool) (c : Times) (at₀ k₀ : ℕ) : Times → ℕ → ℕ → Type 0 where
-  no-more : Passing l size count free c at₀ k₀ c at₀ k₀
-  one-free : {t : Times} {at k : ℕ} → Passing l size count free c at₀ k₀ t at k → k + 1 < count → SameInterval (t .arrival) → IsFree free (windowAt l (at + size))
-      → Passing l size count free c at₀ k₀ (freeTimes t) (at + size) (k + 1)
-  one-unparsed : {t : Times} {at k : ℕ} → Passing l size count free c at₀ k₀ t at k → k + 1 < count → SameInterval (t .arrival) → IsUnparsed (windowAt l (at + size))
-      → Passing l size count free c at₀ k₀ (unparsedTimes t) (at + size) (k + 1)
+pub data Passing (l : List ℕ) (size count : ℕ) (owners : List ℕ) (c : Times) (at₀ k₀ : ℕ) : Times → ℕ → ℕ → Type 0 where
+  no-more : Passing l size count owners c at₀ k₀ c at₀ k₀
+  one-free : {t : Times} {at k : ℕ} → Passing l size count owners c at₀ k₀ t at k → k + 1 < count → SameInterval (t .arrival) → IsFree owners (windowAt l (at + size))
+      → Passing l size count owners c at₀ k₀ (freeTimes t) (at + size) (k + 1)
+  one-unparsed : {t : Times} {at k : ℕ} → Passing l size count owners c at₀ k₀ t at k → k + 1 < count → SameInterval (t .arrival) → IsUnparsed (windowAt l (at + size))
+      → Passing l size count owners c at₀ k₀ (unparsedTimes t) (at + size) (k + 1)
 
-pub record Skips (l : List ℕ) (size count : ℕ) (free : List Bool) (c : Times) (at₀ k₀ : ℕ) (t : Times) (at k : ℕ) : Type 0 where
-  pub passing : Passing l size count free c at₀ k₀ t at k
+pub record Skips (l : List ℕ) (size count : ℕ) (owners : List ℕ) (c : Times) (at₀ k₀ : ℕ) (t : Times) (at k : ℕ) : Type 0 where
+  pub passing : Passing l size count owners c at₀ k₀ t at k
   pub at-few : at ≤ 2 ^ 33
   pub forward : k₀ ≤ k
   pub k-few : k ≤ 2 ^ 33
@@ -87,7 +76,7 @@ beginOf a end alone = cond alone (a .t1) (timeOf (a .cursor .interval) (end - 18
 -- the same from the times c over packets that do not parse, where only the position is kept
 pub record UnparsedTo (l : List ℕ) (size count : ℕ) (c : Times) (at₀ k₀ end at k : ℕ) : Type 0 where
   pub times : Times
-  pub skips : (free : List Bool) → Skips l size count free c at₀ k₀ times at k
+  pub skips : (owners : List ℕ) → Skips l size count owners c at₀ k₀ times at k
   pub cursor-kept : times .arrival .cursor ≡ c .arrival .cursor
   pub end-is : times .arrival .end ≡ end
   pub first-kept : times .«first_time» ≡ c .«first_time»

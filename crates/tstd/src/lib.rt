@@ -3,6 +3,7 @@ mod clear;
 mod figures;
 mod front;
 mod moment;
+mod owners;
 mod run;
 mod skip;
 mod stream;

@@ -1,12 +1,14 @@
 // What a step of pass 2 is about: a packet, or behind the packets the end of a stream.
+use crate::owners::PIDS;
+use crate::owners::owner_of;
 use arrival::PacketArrival;
 use header::PacketHeader;
-use profile::owner::Owner;
-use profile::owner::Pids;
 ghost use mathlib.Core.Path.{_≡_};
 ghost use Rattle.ieee.specs.Binary64.{+∞, -∞};
 ghost use Rattle.arrival.specs.Work.{startOfArrival, nextArrival};
-ghost use Rattle.tstd.specs.Moments.{ownerIndex, momentOf, startTimes, nextTimes};
+ghost use Rattle.profile.specs.declared.owner.Pids.{Pids};
+ghost use Rattle.tstd.specs.Owners.{OwnersOf};
+ghost use Rattle.tstd.specs.Moments.{momentOf, startTimes, nextTimes};
 
 // owner: the stream's index, 8 for the system's chain, 9 for nobody's.
 pub struct Moment {
@@ -17,18 +19,8 @@ pub struct Moment {
     pub payload_unit_start: bool,
 }
 
-fn owner_index(owner: Owner) -> usize
-    ensures { λ r. ⌜ r ≡ ownerIndex owner ⌝ }
-{
-    match owner {
-        Owner::Stream(i) => i,
-        Owner::System => 8,
-        Owner::Nobody => 9,
-    }
-}
-
-pub(crate) fn moment_at(pids: Pids, window: &[u8], count: usize, k: usize) -> Moment
-    ensures { λ r. ⌜ r ≡ momentOf pids (now (window .entry)) count k ⌝ }
+pub(crate) fn moment_at(owners: &[u8; PIDS], window: &[u8], count: usize, k: usize) -> Moment
+    ensures { λ r. ⌜ ((p : Pids) → OwnersOf p (now (owners .entry)) → r ≡ momentOf p (now (window .entry)) count k) ⌝ }
 {
     if count <= k {
         return Moment {
@@ -54,7 +46,7 @@ pub(crate) fn moment_at(pids: Pids, window: &[u8], count: usize, k: usize) -> Mo
         } => Moment {
             end: false,
             parsed: true,
-            owner: owner_index(pids.owner(pid)),
+            owner: owner_of(owners, pid),
             payload_start,
             payload_unit_start,
         },

@@ -3,6 +3,7 @@ use crate::front;
 use crate::front::SystemChain;
 use crate::moment;
 use crate::moment::Times;
+use crate::owners;
 use crate::skip;
 use crate::stream;
 use branch::main_branch::MainBranch;
@@ -44,7 +45,7 @@ pub(crate) fn run(
 {
     let from = 8 * config.queue_depth * config.stream_count;
     let pids = config.pids();
-    let free = skip::free_pids(pids);
+    let owners = owners::owner_table(pids);
     let models = stream::models(config);
     let mut tbs = stream::tbs(config);
     let s0 = PesScanner::new();
@@ -63,7 +64,7 @@ pub(crate) fn run(
     let mut k = 0;
     while k < count + config.stream_count {
         let window = packet::window_at(bytes, at);
-        let m = moment::moment_at(pids, window, count, k);
+        let m = moment::moment_at(&owners, window, count, k);
         times = moment::next(times, m, work, from, places, intervals);
         let a = times.arrival;
         let i = m.owner;
@@ -125,7 +126,7 @@ pub(crate) fn run(
         } else if i == 8 {
             system = front::push_system(system, a, &mut firsts, &mut figures);
         } else {
-            let s = skip::skip(times, &free, bytes, layout.packet_size, at, count, k);
+            let s = skip::skip(times, &owners, bytes, layout.packet_size, at, count, k);
             let t = s.times;
             times = t;
             at = s.at;

@@ -1,52 +1,18 @@
 // Packets behind one another that no chain takes, since they do not parse or are nobody's: a stretch of them only moves the clock on.
-use crate::clear::least;
 use crate::moment::Times;
+use crate::owners::NOBODY;
+use crate::owners::PIDS;
+use crate::owners::index_of;
 use arrival::PacketArrival;
-use profile::owner::Pids;
 ghost use mathlib.Core.Path.{_≡_};
-ghost use mathlib.Core.Bool.{Bool, true, false};
+ghost use mathlib.Core.Bool.{true, false};
 ghost use mathlib.Core.List.{List};
-ghost use Prim.Native.Nat.{_+_, _-_, _^_, _≤_, _<_};
+ghost use Prim.Native.Nat.{ℕ, _+_, _-_, _^_, _≤_, _<_};
 ghost use lib.ListN.{length};
-ghost use Rattle.tstd.specs.Skips.{FreeBut, FreeOf, IsFree, IsUnparsed, SameInterval, nextWithin, beginOf, Skips};
-
-const PIDS: usize = 8192;
+ghost use Rattle.tstd.specs.Skips.{IsFree, IsUnparsed, SameInterval, nextWithin, beginOf, Skips};
 
 // The last position at which a packet may begin.
 const LAST: u64 = u64::MAX - 188;
-
-fn index_of(pid: u16) -> usize
-    ensures { λ r. ⌜ r ≡ pid ⌝ }
-{
-    pid as usize
-}
-
-// The first n PIDs are free no more.
-fn exclude(free: &mut [bool; PIDS], pids: &[u16], n: usize)
-    requires { ⌜ n ≤ length (now pids) ⌝ }
-    ensures { λ _. ⌜ FreeBut (now (free .entry)) (now (pids .entry)) n (now (free .exit)) ⌝ }
-{
-    let mut i = 0;
-    while i < n {
-        let pid = index_of(pids[i]);
-        if pid < PIDS {
-            free[pid] = false;
-        }
-        i += 1;
-    }
-}
-
-// The PIDs that no chain takes, of all that a packet can have.
-pub(crate) fn free_pids(pids: Pids) -> [bool; PIDS]
-    ensures { λ r. ⌜ FreeOf pids r ⌝ }
-{
-    let mut free = [true; PIDS];
-    let streams = pids.streams;
-    exclude(&mut free, &streams, least(pids.stream_count, 8));
-    let system = pids.system;
-    exclude(&mut free, &system, least(pids.system_count, 16));
-    free
-}
 
 // A packet that does not parse, by its first bytes: another sync byte, or an adaptation field that ends behind the packet.
 fn is_unparsed(window: &[u8]) -> bool
@@ -64,9 +30,9 @@ fn is_unparsed(window: &[u8]) -> bool
     false
 }
 
-// A packet without an adaptation field, of a free PID.
-fn is_free(window: &[u8], free: &[bool; PIDS]) -> bool
-    ensures { λ r. ⌜ (r ≡ true → IsFree (now (free .entry)) (now (window .entry))) ⌝ }
+// A packet without an adaptation field, of a PID of nobody.
+fn is_free(window: &[u8], owners: &[u8; PIDS]) -> bool
+    ensures { λ r. ⌜ (r ≡ true → IsFree (now (owners .entry)) (now (window .entry))) ⌝ }
 {
     if window.len() < 188 {
         return false;
@@ -81,7 +47,7 @@ fn is_free(window: &[u8], free: &[bool; PIDS]) -> bool
     let b2 = window[2];
     let pid = index_of(header::pid_of(b1, b2));
     if pid < PIDS {
-        return free[pid];
+        return owners[pid] == NOBODY;
     }
     false
 }
@@ -134,7 +100,7 @@ pub struct Skipped {
 // From packet k on, which lies at `at`, over the packets behind it that do not parse. No time but the last is worked out.
 fn skip_unparsed(c: Times, bytes: &[u8], size: usize, at: usize, count: usize, k: usize) -> Skipped
     requires { ⌜ (length (now bytes) ≤ 2 ^ 24) × ((size ≤ 204) × ((at ≤ 2 ^ 33) × ((k ≤ 2 ^ 33) × (count ≤ 2 ^ 33)))) ⌝ }
-    ensures { λ r. ⌜ ((free : List Bool) → Skips (now (bytes .entry)) size count free c at k (r .times) (r .at) (r .k)) ⌝ }
+    ensures { λ r. ⌜ ((owners : List ℕ) → Skips (now (bytes .entry)) size count owners c at k (r .times) (r .at) (r .k)) ⌝ }
 {
     let a = c.arrival;
     let cursor = a.cursor;
@@ -176,7 +142,7 @@ fn skip_unparsed(c: Times, bytes: &[u8], size: usize, at: usize, count: usize, k
 // The same over packets of nobody.
 fn skip_free(
     c: Times,
-    free: &[bool; PIDS],
+    owners: &[u8; PIDS],
     bytes: &[u8],
     size: usize,
     at: usize,
@@ -184,7 +150,7 @@ fn skip_free(
     k: usize,
 ) -> Skipped
     requires { ⌜ (length (now bytes) ≤ 2 ^ 24) × ((size ≤ 204) × ((at ≤ 2 ^ 33) × ((k ≤ 2 ^ 33) × (count ≤ 2 ^ 33)))) ⌝ }
-    ensures { λ r. ⌜ Skips (now (bytes .entry)) size count (now (free .entry)) c at k (r .times) (r .at) (r .k) ⌝ }
+    ensures { λ r. ⌜ Skips (now (bytes .entry)) size count (now (owners .entry)) c at k (r .times) (r .at) (r .k) ⌝ }
 {
     let mut times = c;
     let mut place = at;
@@ -196,7 +162,7 @@ fn skip_free(
             break;
         }
         let window = packet::window_at(bytes, place + size);
-        if !is_free(window, free) {
+        if !is_free(window, owners) {
             break;
         }
         let b = next_within(a);
@@ -218,7 +184,7 @@ fn skip_free(
 // From packet k on, which lies at `at`, over the packets behind it that no chain takes.
 pub(crate) fn skip(
     c: Times,
-    free: &[bool; PIDS],
+    owners: &[u8; PIDS],
     bytes: &[u8],
     size: usize,
     at: usize,
@@ -226,9 +192,9 @@ pub(crate) fn skip(
     k: usize,
 ) -> Skipped
     requires { ⌜ (length (now bytes) ≤ 2 ^ 24) × ((size ≤ 204) × ((at ≤ 2 ^ 33) × ((k ≤ 2 ^ 33) × (count ≤ 2 ^ 33)))) ⌝ }
-    ensures { λ r. ⌜ Skips (now (bytes .entry)) size count (now (free .entry)) c at k (r .times) (r .at) (r .k) ⌝ }
+    ensures { λ r. ⌜ Skips (now (bytes .entry)) size count (now (owners .entry)) c at k (r .times) (r .at) (r .k) ⌝ }
 {
     let u = skip_unparsed(c, bytes, size, at, count, k);
     let t = u.times;
-    skip_free(t, free, bytes, size, u.at, count, u.k)
+    skip_free(t, owners, bytes, size, u.at, count, u.k)
 }

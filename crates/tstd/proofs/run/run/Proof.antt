@@ -24,11 +24,11 @@ one-more : (n : ℕ) → 0 < n → n ≡ suc (n - 1)
 one-more n h = omega arith
 
 abbrev Inv-loop : tie.InvT-loop
-Inv-loop config bytes layout count work₀ places intervals from pids free models tbs₀ scanners₀ mains₀ videos₀ system₀ firsts₀ figures₀ times₀ at₀ full₀ owner₀ k₀ work tbs scanners mains videos system firsts figures times at full owner k =
+Inv-loop config bytes layout count work₀ places intervals from owners models tbs₀ scanners₀ mains₀ videos₀ system₀ firsts₀ figures₀ times₀ at₀ full₀ owner₀ k₀ work tbs scanners mains videos system firsts figures times at full owner k =
     LoopInv (passOf config bytes layout count work₀ places intervals) k at full work tbs scanners mains videos system times (slots firsts figures)
 
 abbrev μ-loop : tie.MeasureT-loop
-μ-loop config bytes layout count work₀ places intervals from pids free models tbs₀ scanners₀ mains₀ videos₀ system₀ firsts₀ figures₀ times₀ at₀ full₀ owner₀ k₀ work tbs scanners mains videos system firsts figures times at full owner k =
+μ-loop config bytes layout count work₀ places intervals from owners models tbs₀ scanners₀ mains₀ videos₀ system₀ firsts₀ figures₀ times₀ at₀ full₀ owner₀ k₀ work tbs scanners mains videos system firsts figures times at full owner k =
     count + config .«stream_count» - k
 
 mul-from : tie.Need-mul-from Inv-loop μ-loop
@@ -40,8 +40,8 @@ mul-from-2 c = omega (arith, mul-le-mul {n₁ = 8 * c .before .before .before .b
 pids-requires : tie.Need-pids-requires Inv-loop μ-loop
 pids-requires c κs = search needs
 
-free-pids-requires : tie.Need-free-pids-requires Inv-loop μ-loop
-free-pids-requires c κs = search needs
+owner-table-requires : tie.Need-owner-table-requires Inv-loop μ-loop
+owner-table-requires c κs = search needs
 
 models-requires : tie.Need-models-requires Inv-loop μ-loop
 models-requires c κs = search needs
@@ -196,39 +196,39 @@ push-system-requires : tie.Need-push-system-requires Inv-loop μ-loop
 push-system-requires c κs = search needs
 
 skip-requires : tie.Need-skip-requires Inv-loop μ-loop
-skip-requires c κs = (c .before .before .before .before .before .before .before .before .before .before .before .before .before .before .before .before .before .before .before .before .before .before .before .before .before .before .pre .1 .long, (c .before .before .before .before .before .before .before .before .before .before .before .before .before .before .before .before .before .before .before .before .before .before .before .before .before .before .pre .1 .size-few, (at-small _ (c .before .before .before .before .before .before .before .before .before .before .before .before .before .before .before .before .before .before .before .before .before .before .before .before .before .before .pre .1) _ _ (c .before .before .before .before .before .before .before .before .before .before .loop .inv .loop .placed) (c .before .before .before .before .before .before .before .before .if1 .taken), (omega (arith, count-few _ (c .before .before .before .before .before .before .before .before .before .before .before .before .before .before .before .before .before .before .before .before .before .before .before .before .before .before .pre .1), c .before .before .before .before .before .before .before .before .before .before .before .before .before .before .before .before .before .before .before .before .before .before .before .before .before .before .pre .1 .few, c .before .before .before .before .before .before .before .before .if1 .taken), omega (arith, count-few _ (c .before .before .before .before .before .before .before .before .before .before .before .before .before .before .before .before .before .before .before .before .before .before .before .before .before .before .pre .1))))))
+skip-requires c κs = (c .before .before .before .before .before .before .before .before .before .before .before .before .before .before .before .before .before .before .before .before .before .before .before .before .before .before .before .pre .1 .long, (c .before .before .before .before .before .before .before .before .before .before .before .before .before .before .before .before .before .before .before .before .before .before .before .before .before .before .before .pre .1 .size-few, (at-small _ (c .before .before .before .before .before .before .before .before .before .before .before .before .before .before .before .before .before .before .before .before .before .before .before .before .before .before .before .pre .1) _ _ (c .before .before .before .before .before .before .before .before .before .before .before .loop .inv .loop .placed) (c .before .before .before .before .before .before .before .before .before .if1 .taken), (omega (arith, count-few _ (c .before .before .before .before .before .before .before .before .before .before .before .before .before .before .before .before .before .before .before .before .before .before .before .before .before .before .before .pre .1), c .before .before .before .before .before .before .before .before .before .before .before .before .before .before .before .before .before .before .before .before .before .before .before .before .before .before .before .pre .1 .few, c .before .before .before .before .before .before .before .before .before .if1 .taken), omega (arith, count-few _ (c .before .before .before .before .before .before .before .before .before .before .before .before .before .before .before .before .before .before .before .before .before .before .before .before .before .before .before .pre .1))))))
 
 -- what the step does to the place and the count
-moved : (c : tie.Joined2 Inv-loop μ-loop) → Moved _ (c .before .before .before .before .before .before .before .before .loop .inv .ready) _ _ _ _ _ _ _ _ _ _ _ (c .before .before .before .before .before .before .before .before .loop .inv .loop) (c .before .before .before .before .before .before .if1 .taken) (c .if2 .at) (c .if2 .k)
+moved : (c : tie.Joined2 Inv-loop μ-loop) → Moved _ (c .before .before .before .before .before .before .before .before .before .loop .inv .ready) _ _ _ _ _ _ _ _ _ _ _ (c .before .before .before .before .before .before .before .before .before .loop .inv .loop) (c .before .before .before .before .before .before .before .if1 .taken) (c .if2 .at) (c .if2 .k)
 moved c =
-    ⊎-elim (λ w. moved-none _ (c .before .before .before .before .before .before .before .before .loop .inv .ready) _ _ _ _ _ _ _ _ _ _ _ (c .before .before .before .before .before .before .before .before .loop .inv .loop) (c .before .before .before .before .before .before .if1 .taken) _ _ (w .23) (w .25))
+    ⊎-elim (λ w. moved-none _ (c .before .before .before .before .before .before .before .before .before .loop .inv .ready) _ _ _ _ _ _ _ _ _ _ _ (c .before .before .before .before .before .before .before .before .before .loop .inv .loop) (c .before .before .before .before .before .before .before .if1 .taken) _ _ (w .23) (w .25))
     (λ z.
-    ⊎-elim (λ w. moved-none _ (c .before .before .before .before .before .before .before .before .loop .inv .ready) _ _ _ _ _ _ _ _ _ _ _ (c .before .before .before .before .before .before .before .before .loop .inv .loop) (c .before .before .before .before .before .before .if1 .taken) _ _ (w .14) (w .16))
-    (λ w. moved-skip _ (c .before .before .before .before .before .before .before .before .loop .inv .ready) _ _ _ _ _ _ _ _ _ _ _ (c .before .before .before .before .before .before .before .before .loop .inv .loop) (c .before .before .before .before .before .before .if1 .taken) (w .3 .ensures) _ _ (w .14) (w .16))
+    ⊎-elim (λ w. moved-none _ (c .before .before .before .before .before .before .before .before .before .loop .inv .ready) _ _ _ _ _ _ _ _ _ _ _ (c .before .before .before .before .before .before .before .before .before .loop .inv .loop) (c .before .before .before .before .before .before .before .if1 .taken) _ _ (w .14) (w .16))
+    (λ w. moved-skip _ (c .before .before .before .before .before .before .before .before .before .loop .inv .ready) _ _ _ _ _ _ _ _ _ _ _ (c .before .before .before .before .before .before .before .before .before .loop .inv .loop) (c .before .before .before .before .before .before .before .if1 .taken) (w .3 .ensures) _ _ (w .14) (w .16))
     z)
     (c .if2 .came)
 
 add-at : tie.Need-add-at Inv-loop μ-loop
-add-at c = omega (arith, moved (c .before .before) .at-few, c .before .before .before .before .before .before .before .before .before .before .before .before .before .before .before .before .before .before .before .before .before .before .before .before .before .before .pre .1 .size-few)
+add-at c = omega (arith, moved (c .before .before) .at-few, c .before .before .before .before .before .before .before .before .before .before .before .before .before .before .before .before .before .before .before .before .before .before .before .before .before .before .before .pre .1 .size-few)
 
 add-k : tie.Need-add-k Inv-loop μ-loop
-add-k c = omega (arith, count-few _ (c .before .before .before .before .before .before .before .before .before .before .before .before .before .before .before .before .before .before .before .before .before .before .before .before .before .before .before .pre .1), c .before .before .before .before .before .before .before .before .before .before .before .before .before .before .before .before .before .before .before .before .before .before .before .before .before .before .before .pre .1 .few, moved (c .before .before .before) .inside)
+add-k c = omega (arith, count-few _ (c .before .before .before .before .before .before .before .before .before .before .before .before .before .before .before .before .before .before .before .before .before .before .before .before .before .before .before .before .pre .1), c .before .before .before .before .before .before .before .before .before .before .before .before .before .before .before .before .before .before .before .before .before .before .before .before .before .before .before .before .pre .1 .few, moved (c .before .before .before) .inside)
 
 loop-less : tie.Need-loop-less Inv-loop μ-loop
-loop-less c = omega (arith, c .before .before .before .before .before .before .before .before .before .if1 .taken, moved (c .before .before .before) .forward, moved (c .before .before .before) .inside)
+loop-less c = omega (arith, c .before .before .before .before .before .before .before .before .before .before .if1 .taken, moved (c .before .before .before) .forward, moved (c .before .before .before) .inside)
 
 loop-again : tie.Need-loop-again Inv-loop μ-loop
 loop-again c =
     ⊎-elim
     (λ w.
     ⊎-elim
-    (λ v. loop-as (w .22) (w .23) (w .25) (video-again _ (c .before .before .before .before .before .before .before .before .before .before .before .loop .inv .ready) _ _ _ _ _ _ _ _ _ _ _ (c .before .before .before .before .before .before .before .before .before .before .before .loop .inv .loop) (c .before .before .before .before .before .before .before .before .before .if1 .taken) _ _ _ (c .before .before .before .before .before .before .before .before .window-at .ensures) _ (c .before .before .before .before .before .before .before .before .before .before .before .before .before .before .before .before .before .before .before .before .before .pids .ensures) (c .before .before .before .before .before .before .before .moment-at .ensures) _ (one-more _ (c .before .before .before .before .before .before .before .before .before .before .before .before .before .before .before .before .before .before .before .before .before .before .before .before .before .before .before .pre .0)) (c .before .before .before .before .before .next .ensures) (c .before .before .before .before .before .before .before .moment-at .result .owner) refl (w .0 .taken) _ (getD-any (c .before .before .before .before .before .before .before .before .before .before .before .loop .tbs) (c .before .before .before .before .before .before .before .moment-at .result .owner) _ unusedTb (omega (arith, (c .before .before .before .before .before .before .before .before .before .before .before .loop .inv .loop) .now .ts-size, (w .0 .taken)))) _ _ (⊎-elim (λ s. scanned-fed _ _ _ _ ((c .before .before .before .before .before .before .before .before .before .before .before .loop .inv .loop) .now .ss-size) (w .0 .taken) _ (getD-any (c .before .before .before .before .before .before .before .before .before .before .before .loop .scanners) (c .before .before .before .before .before .before .before .moment-at .result .owner) _ idle (omega (arith, (c .before .before .before .before .before .before .before .before .before .before .before .loop .inv .loop) .now .ss-size, (w .0 .taken)))) _ (w .3 .ensures) (s .0 .taken) _ (getD-any (c .before .before .before .before .before .before .before .before .before .before .before .loop .scanners) (c .before .before .before .before .before .before .before .moment-at .result .owner) _ idle (omega (arith, (c .before .before .before .before .before .before .before .before .before .before .before .loop .inv .loop) .now .ss-size, (w .0 .taken)))) _ (s .2 .ensures) _ _ (s .5) (s .6)) (λ s. scanned-kept _ _ _ _ ((c .before .before .before .before .before .before .before .before .before .before .before .loop .inv .loop) .now .ss-size) (w .0 .taken) _ (getD-any (c .before .before .before .before .before .before .before .before .before .before .before .loop .scanners) (c .before .before .before .before .before .before .before .moment-at .result .owner) _ idle (omega (arith, (c .before .before .before .before .before .before .before .before .before .before .before .loop .inv .loop) .now .ss-size, (w .0 .taken)))) _ (w .3 .ensures) (s .0 .left) _ _ (s .1) (s .2 ∙ w .2 .ensures)) (w .4 .came)) _ _ (w .8 .ensures) _ (getD-any (c .before .before .before .before .before .before .before .before .before .before .before .before .before .before .before .before .before .before .before .models .result) (c .before .before .before .before .before .before .before .moment-at .result .owner) _ unusedModel (omega (arith, (c .before .before .before .before .before .before .before .before .before .before .before .before .before .before .before .before .before .before .before .models .ensures) .size, (w .0 .taken))) ∙ (c .before .before .before .before .before .before .before .before .before .before .before .before .before .before .before .before .before .before .before .models .ensures) .at (c .before .before .before .before .before .before .before .moment-at .result .owner) (w .0 .taken)) _ _ _ refl _ (w .14 ∙ v .11) _ (w .15) _ (w .16) _ _ _ (w .19) _ _ (ap₂ slots (w .20 ∙ v .14) (w .21 ∙ v .15)) _ (v .0 .taken) _ (getD-any (c .before .before .before .before .before .before .before .before .before .before .before .loop .videos) (c .before .before .before .before .before .before .before .moment-at .result .owner) _ video-work.newBranch (omega (arith, (c .before .before .before .before .before .before .before .before .before .before .before .loop .inv .loop) .now .vs-size, (w .0 .taken)))) _ (v .7 .ensures) (w .18 ∙ v .13) (w .17 ∙ v .12) (w .24 ∙ v .16) (w .24 ∙ w .13 .left)))
-    (λ v. loop-as (w .22) (w .23) (w .25) (main-again _ (c .before .before .before .before .before .before .before .before .before .before .before .loop .inv .ready) _ _ _ _ _ _ _ _ _ _ _ (c .before .before .before .before .before .before .before .before .before .before .before .loop .inv .loop) (c .before .before .before .before .before .before .before .before .before .if1 .taken) _ _ _ (c .before .before .before .before .before .before .before .before .window-at .ensures) _ (c .before .before .before .before .before .before .before .before .before .before .before .before .before .before .before .before .before .before .before .before .before .pids .ensures) (c .before .before .before .before .before .before .before .moment-at .ensures) _ (one-more _ (c .before .before .before .before .before .before .before .before .before .before .before .before .before .before .before .before .before .before .before .before .before .before .before .before .before .before .before .pre .0)) (c .before .before .before .before .before .next .ensures) (c .before .before .before .before .before .before .before .moment-at .result .owner) refl (w .0 .taken) _ (getD-any (c .before .before .before .before .before .before .before .before .before .before .before .loop .tbs) (c .before .before .before .before .before .before .before .moment-at .result .owner) _ unusedTb (omega (arith, (c .before .before .before .before .before .before .before .before .before .before .before .loop .inv .loop) .now .ts-size, (w .0 .taken)))) _ _ (⊎-elim (λ s. scanned-fed _ _ _ _ ((c .before .before .before .before .before .before .before .before .before .before .before .loop .inv .loop) .now .ss-size) (w .0 .taken) _ (getD-any (c .before .before .before .before .before .before .before .before .before .before .before .loop .scanners) (c .before .before .before .before .before .before .before .moment-at .result .owner) _ idle (omega (arith, (c .before .before .before .before .before .before .before .before .before .before .before .loop .inv .loop) .now .ss-size, (w .0 .taken)))) _ (w .3 .ensures) (s .0 .taken) _ (getD-any (c .before .before .before .before .before .before .before .before .before .before .before .loop .scanners) (c .before .before .before .before .before .before .before .moment-at .result .owner) _ idle (omega (arith, (c .before .before .before .before .before .before .before .before .before .before .before .loop .inv .loop) .now .ss-size, (w .0 .taken)))) _ (s .2 .ensures) _ _ (s .5) (s .6)) (λ s. scanned-kept _ _ _ _ ((c .before .before .before .before .before .before .before .before .before .before .before .loop .inv .loop) .now .ss-size) (w .0 .taken) _ (getD-any (c .before .before .before .before .before .before .before .before .before .before .before .loop .scanners) (c .before .before .before .before .before .before .before .moment-at .result .owner) _ idle (omega (arith, (c .before .before .before .before .before .before .before .before .before .before .before .loop .inv .loop) .now .ss-size, (w .0 .taken)))) _ (w .3 .ensures) (s .0 .left) _ _ (s .1) (s .2 ∙ w .2 .ensures)) (w .4 .came)) _ _ (w .8 .ensures) _ (getD-any (c .before .before .before .before .before .before .before .before .before .before .before .before .before .before .before .before .before .before .before .models .result) (c .before .before .before .before .before .before .before .moment-at .result .owner) _ unusedModel (omega (arith, (c .before .before .before .before .before .before .before .before .before .before .before .before .before .before .before .before .before .before .before .models .ensures) .size, (w .0 .taken))) ∙ (c .before .before .before .before .before .before .before .before .before .before .before .before .before .before .before .before .before .before .before .models .ensures) .at (c .before .before .before .before .before .before .before .moment-at .result .owner) (w .0 .taken)) _ _ _ refl _ (w .14 ∙ v .11) _ (w .15) _ (w .16) _ _ _ (w .19) _ _ (ap₂ slots (w .20 ∙ v .14) (w .21 ∙ v .15)) _ (v .0 .left) _ (getD-any (c .before .before .before .before .before .before .before .before .before .before .before .loop .mains) (c .before .before .before .before .before .before .before .moment-at .result .owner) _ main-work.newBranch (omega (arith, (c .before .before .before .before .before .before .before .before .before .before .before .loop .inv .loop) .now .ms-size, (w .0 .taken)))) _ (v .7 .ensures) (w .17 ∙ v .12) (w .18 ∙ v .13) (w .24 ∙ v .16) (w .24 ∙ w .13 .left)))
+    (λ v. loop-as (w .22) (w .23) (w .25) (video-again _ (c .before .before .before .before .before .before .before .before .before .before .before .before .loop .inv .ready) _ _ _ _ _ _ _ _ _ _ _ (c .before .before .before .before .before .before .before .before .before .before .before .before .loop .inv .loop) (c .before .before .before .before .before .before .before .before .before .before .if1 .taken) _ _ _ (c .before .before .before .before .before .before .before .before .before .window-at .ensures) _ (c .before .before .before .before .before .before .before .before .before .before .before .before .before .before .before .before .before .before .before .before .before .before .pids .ensures) (c .before .before .before .before .before .before .before .moment-at .ensures _ (c .before .before .before .before .before .before .before .before .before .before .before .before .before .before .before .before .before .before .before .before .before .owner-table .ensures)) _ (one-more _ (c .before .before .before .before .before .before .before .before .before .before .before .before .before .before .before .before .before .before .before .before .before .before .before .before .before .before .before .before .pre .0)) (c .before .before .before .before .before .next .ensures) (c .before .before .before .before .before .before .before .moment-at .result .owner) refl (w .0 .taken) _ (getD-any (c .before .before .before .before .before .before .before .before .before .before .before .before .loop .tbs) (c .before .before .before .before .before .before .before .moment-at .result .owner) _ unusedTb (omega (arith, (c .before .before .before .before .before .before .before .before .before .before .before .before .loop .inv .loop) .now .ts-size, (w .0 .taken)))) _ _ (⊎-elim (λ s. scanned-fed _ _ _ _ ((c .before .before .before .before .before .before .before .before .before .before .before .before .loop .inv .loop) .now .ss-size) (w .0 .taken) _ (getD-any (c .before .before .before .before .before .before .before .before .before .before .before .before .loop .scanners) (c .before .before .before .before .before .before .before .moment-at .result .owner) _ idle (omega (arith, (c .before .before .before .before .before .before .before .before .before .before .before .before .loop .inv .loop) .now .ss-size, (w .0 .taken)))) _ (w .3 .ensures) (s .0 .taken) _ (getD-any (c .before .before .before .before .before .before .before .before .before .before .before .before .loop .scanners) (c .before .before .before .before .before .before .before .moment-at .result .owner) _ idle (omega (arith, (c .before .before .before .before .before .before .before .before .before .before .before .before .loop .inv .loop) .now .ss-size, (w .0 .taken)))) _ (s .2 .ensures) _ _ (s .5) (s .6)) (λ s. scanned-kept _ _ _ _ ((c .before .before .before .before .before .before .before .before .before .before .before .before .loop .inv .loop) .now .ss-size) (w .0 .taken) _ (getD-any (c .before .before .before .before .before .before .before .before .before .before .before .before .loop .scanners) (c .before .before .before .before .before .before .before .moment-at .result .owner) _ idle (omega (arith, (c .before .before .before .before .before .before .before .before .before .before .before .before .loop .inv .loop) .now .ss-size, (w .0 .taken)))) _ (w .3 .ensures) (s .0 .left) _ _ (s .1) (s .2 ∙ w .2 .ensures)) (w .4 .came)) _ _ (w .8 .ensures) _ (getD-any (c .before .before .before .before .before .before .before .before .before .before .before .before .before .before .before .before .before .before .before .before .models .result) (c .before .before .before .before .before .before .before .moment-at .result .owner) _ unusedModel (omega (arith, (c .before .before .before .before .before .before .before .before .before .before .before .before .before .before .before .before .before .before .before .before .models .ensures) .size, (w .0 .taken))) ∙ (c .before .before .before .before .before .before .before .before .before .before .before .before .before .before .before .before .before .before .before .before .models .ensures) .at (c .before .before .before .before .before .before .before .moment-at .result .owner) (w .0 .taken)) _ _ _ refl _ (w .14 ∙ v .11) _ (w .15) _ (w .16) _ _ _ (w .19) _ _ (ap₂ slots (w .20 ∙ v .14) (w .21 ∙ v .15)) _ (v .0 .taken) _ (getD-any (c .before .before .before .before .before .before .before .before .before .before .before .before .loop .videos) (c .before .before .before .before .before .before .before .moment-at .result .owner) _ video-work.newBranch (omega (arith, (c .before .before .before .before .before .before .before .before .before .before .before .before .loop .inv .loop) .now .vs-size, (w .0 .taken)))) _ (v .7 .ensures) (w .18 ∙ v .13) (w .17 ∙ v .12) (w .24 ∙ v .16) (w .24 ∙ w .13 .left)))
+    (λ v. loop-as (w .22) (w .23) (w .25) (main-again _ (c .before .before .before .before .before .before .before .before .before .before .before .before .loop .inv .ready) _ _ _ _ _ _ _ _ _ _ _ (c .before .before .before .before .before .before .before .before .before .before .before .before .loop .inv .loop) (c .before .before .before .before .before .before .before .before .before .before .if1 .taken) _ _ _ (c .before .before .before .before .before .before .before .before .before .window-at .ensures) _ (c .before .before .before .before .before .before .before .before .before .before .before .before .before .before .before .before .before .before .before .before .before .before .pids .ensures) (c .before .before .before .before .before .before .before .moment-at .ensures _ (c .before .before .before .before .before .before .before .before .before .before .before .before .before .before .before .before .before .before .before .before .before .owner-table .ensures)) _ (one-more _ (c .before .before .before .before .before .before .before .before .before .before .before .before .before .before .before .before .before .before .before .before .before .before .before .before .before .before .before .before .pre .0)) (c .before .before .before .before .before .next .ensures) (c .before .before .before .before .before .before .before .moment-at .result .owner) refl (w .0 .taken) _ (getD-any (c .before .before .before .before .before .before .before .before .before .before .before .before .loop .tbs) (c .before .before .before .before .before .before .before .moment-at .result .owner) _ unusedTb (omega (arith, (c .before .before .before .before .before .before .before .before .before .before .before .before .loop .inv .loop) .now .ts-size, (w .0 .taken)))) _ _ (⊎-elim (λ s. scanned-fed _ _ _ _ ((c .before .before .before .before .before .before .before .before .before .before .before .before .loop .inv .loop) .now .ss-size) (w .0 .taken) _ (getD-any (c .before .before .before .before .before .before .before .before .before .before .before .before .loop .scanners) (c .before .before .before .before .before .before .before .moment-at .result .owner) _ idle (omega (arith, (c .before .before .before .before .before .before .before .before .before .before .before .before .loop .inv .loop) .now .ss-size, (w .0 .taken)))) _ (w .3 .ensures) (s .0 .taken) _ (getD-any (c .before .before .before .before .before .before .before .before .before .before .before .before .loop .scanners) (c .before .before .before .before .before .before .before .moment-at .result .owner) _ idle (omega (arith, (c .before .before .before .before .before .before .before .before .before .before .before .before .loop .inv .loop) .now .ss-size, (w .0 .taken)))) _ (s .2 .ensures) _ _ (s .5) (s .6)) (λ s. scanned-kept _ _ _ _ ((c .before .before .before .before .before .before .before .before .before .before .before .before .loop .inv .loop) .now .ss-size) (w .0 .taken) _ (getD-any (c .before .before .before .before .before .before .before .before .before .before .before .before .loop .scanners) (c .before .before .before .before .before .before .before .moment-at .result .owner) _ idle (omega (arith, (c .before .before .before .before .before .before .before .before .before .before .before .before .loop .inv .loop) .now .ss-size, (w .0 .taken)))) _ (w .3 .ensures) (s .0 .left) _ _ (s .1) (s .2 ∙ w .2 .ensures)) (w .4 .came)) _ _ (w .8 .ensures) _ (getD-any (c .before .before .before .before .before .before .before .before .before .before .before .before .before .before .before .before .before .before .before .before .models .result) (c .before .before .before .before .before .before .before .moment-at .result .owner) _ unusedModel (omega (arith, (c .before .before .before .before .before .before .before .before .before .before .before .before .before .before .before .before .before .before .before .before .models .ensures) .size, (w .0 .taken))) ∙ (c .before .before .before .before .before .before .before .before .before .before .before .before .before .before .before .before .before .before .before .before .models .ensures) .at (c .before .before .before .before .before .before .before .moment-at .result .owner) (w .0 .taken)) _ _ _ refl _ (w .14 ∙ v .11) _ (w .15) _ (w .16) _ _ _ (w .19) _ _ (ap₂ slots (w .20 ∙ v .14) (w .21 ∙ v .15)) _ (v .0 .left) _ (getD-any (c .before .before .before .before .before .before .before .before .before .before .before .before .loop .mains) (c .before .before .before .before .before .before .before .moment-at .result .owner) _ main-work.newBranch (omega (arith, (c .before .before .before .before .before .before .before .before .before .before .before .before .loop .inv .loop) .now .ms-size, (w .0 .taken)))) _ (v .7 .ensures) (w .17 ∙ v .12) (w .18 ∙ v .13) (w .24 ∙ v .16) (w .24 ∙ w .13 .left)))
     (w .12 .came))
     (λ z.
     ⊎-elim
-    (λ w. loop-as (w .13) (w .14) (w .16) (system-again _ (c .before .before .before .before .before .before .before .before .before .before .before .loop .inv .ready) _ _ _ _ _ _ _ _ _ _ _ (c .before .before .before .before .before .before .before .before .before .before .before .loop .inv .loop) (c .before .before .before .before .before .before .before .before .before .if1 .taken) _ _ _ (c .before .before .before .before .before .before .before .before .window-at .ensures) _ (c .before .before .before .before .before .before .before .before .before .before .before .before .before .before .before .before .before .before .before .before .before .pids .ensures) (c .before .before .before .before .before .before .before .moment-at .ensures) _ (one-more _ (c .before .before .before .before .before .before .before .before .before .before .before .before .before .before .before .before .before .before .before .before .before .before .before .before .before .before .before .pre .0)) (c .before .before .before .before .before .next .ensures) (w .1 .taken) _ _ (w .4 .ensures .0) (w .4 .ensures .1) _ _ _ _ _ _ _ _ _ (w .5) (w .6) (w .7) (w .8) (w .9) (w .10) (ap₂ slots (w .11) (w .12)) (w .15)))
-    (λ w. loop-as (w .13) (w .14) (w .16) (skip-again _ (c .before .before .before .before .before .before .before .before .before .before .before .loop .inv .ready) _ _ _ _ _ _ _ _ _ _ _ (c .before .before .before .before .before .before .before .before .before .before .before .loop .inv .loop) (c .before .before .before .before .before .before .before .before .before .if1 .taken) _ _ _ (c .before .before .before .before .before .before .before .before .window-at .ensures) _ (c .before .before .before .before .before .before .before .before .before .before .before .before .before .before .before .before .before .before .before .before .before .pids .ensures) (c .before .before .before .before .before .before .before .moment-at .ensures) _ (one-more _ (c .before .before .before .before .before .before .before .before .before .before .before .before .before .before .before .before .before .before .before .before .before .before .before .before .before .before .before .pre .0)) (c .before .before .before .before .before .next .ensures) (w .0 .left) (w .1 .left) _ (c .before .before .before .before .before .before .before .before .before .before .before .before .before .before .before .before .before .before .before .before .free-pids .ensures) (w .3 .ensures) _ _ _ _ _ _ _ _ _ (w .5) (w .6) (w .7) (w .8) (w .9) (w .10) (ap₂ slots (w .11) (w .12)) (w .15)))
+    (λ w. loop-as (w .13) (w .14) (w .16) (system-again _ (c .before .before .before .before .before .before .before .before .before .before .before .before .loop .inv .ready) _ _ _ _ _ _ _ _ _ _ _ (c .before .before .before .before .before .before .before .before .before .before .before .before .loop .inv .loop) (c .before .before .before .before .before .before .before .before .before .before .if1 .taken) _ _ _ (c .before .before .before .before .before .before .before .before .before .window-at .ensures) _ (c .before .before .before .before .before .before .before .before .before .before .before .before .before .before .before .before .before .before .before .before .before .before .pids .ensures) (c .before .before .before .before .before .before .before .moment-at .ensures _ (c .before .before .before .before .before .before .before .before .before .before .before .before .before .before .before .before .before .before .before .before .before .owner-table .ensures)) _ (one-more _ (c .before .before .before .before .before .before .before .before .before .before .before .before .before .before .before .before .before .before .before .before .before .before .before .before .before .before .before .before .pre .0)) (c .before .before .before .before .before .next .ensures) (w .1 .taken) _ _ (w .4 .ensures .0) (w .4 .ensures .1) _ _ _ _ _ _ _ _ _ (w .5) (w .6) (w .7) (w .8) (w .9) (w .10) (ap₂ slots (w .11) (w .12)) (w .15)))
+    (λ w. loop-as (w .13) (w .14) (w .16) (skip-again _ (c .before .before .before .before .before .before .before .before .before .before .before .before .loop .inv .ready) _ _ _ _ _ _ _ _ _ _ _ (c .before .before .before .before .before .before .before .before .before .before .before .before .loop .inv .loop) (c .before .before .before .before .before .before .before .before .before .before .if1 .taken) _ _ _ (c .before .before .before .before .before .before .before .before .before .window-at .ensures) _ (c .before .before .before .before .before .before .before .before .before .before .before .before .before .before .before .before .before .before .before .before .before .before .pids .ensures) (c .before .before .before .before .before .before .before .moment-at .ensures _ (c .before .before .before .before .before .before .before .before .before .before .before .before .before .before .before .before .before .before .before .before .before .owner-table .ensures)) _ (one-more _ (c .before .before .before .before .before .before .before .before .before .before .before .before .before .before .before .before .before .before .before .before .before .before .before .before .before .before .before .before .pre .0)) (c .before .before .before .before .before .next .ensures) (w .0 .left) (w .1 .left) _ (c .before .before .before .before .before .before .before .before .before .before .before .before .before .before .before .before .before .before .before .before .before .owner-table .ensures) (w .3 .ensures) _ _ _ _ _ _ _ _ _ (w .5) (w .6) (w .7) (w .8) (w .9) (w .10) (ap₂ slots (w .11) (w .12)) (w .15)))
     z)
     (c .before .before .before .if2 .came)
 
@@ -241,8 +241,8 @@ returns c = loop-ends _ (c .before .before .loop .inv .ready) _ _ _ _ _ _ _ _ _ 
 returns-2 : tie.Need-returns-2 Inv-loop μ-loop
 returns-2 c =
     ⊎-elim
-    (λ v. video-refuses _ (c .before .before .before .before .before .before .before .before .before .before .before .before .before .before .before .before .before .before .before .before .before .loop .inv .ready) _ _ _ _ _ _ _ _ _ _ _ (c .before .before .before .before .before .before .before .before .before .before .before .before .before .before .before .before .before .before .before .before .before .loop .inv .loop) (c .before .before .before .before .before .before .before .before .before .before .before .before .before .before .before .before .before .before .before .if1 .taken) _ _ _ (c .before .before .before .before .before .before .before .before .before .before .before .before .before .before .before .before .before .before .window-at .ensures) _ (c .before .before .before .before .before .before .before .before .before .before .before .before .before .before .before .before .before .before .before .before .before .before .before .before .before .before .before .before .before .before .before .pids .ensures) (c .before .before .before .before .before .before .before .before .before .before .before .before .before .before .before .before .before .moment-at .ensures) _ (one-more _ (c .before .before .before .before .before .before .before .before .before .before .before .before .before .before .before .before .before .before .before .before .before .before .before .before .before .before .before .before .before .before .before .before .before .before .before .before .before .pre .0)) (c .before .before .before .before .before .before .before .before .before .before .before .before .before .before .before .next .ensures) (c .before .before .before .before .before .before .before .before .before .before .before .before .before .before .before .before .before .moment-at .result .owner) refl (c .before .before .before .before .before .before .before .before .before .before .before .before .before .if2 .taken) _ (getD-any (c .before .before .before .before .before .before .before .before .before .before .before .before .before .before .before .before .before .before .before .before .before .loop .tbs) (c .before .before .before .before .before .before .before .before .before .before .before .before .before .before .before .before .before .moment-at .result .owner) _ unusedTb (omega (arith, (c .before .before .before .before .before .before .before .before .before .before .before .before .before .before .before .before .before .before .before .before .before .loop .inv .loop) .now .ts-size, (c .before .before .before .before .before .before .before .before .before .before .before .before .before .if2 .taken)))) _ _ (⊎-elim (λ s. scanned-fed _ _ _ _ ((c .before .before .before .before .before .before .before .before .before .before .before .before .before .before .before .before .before .before .before .before .before .loop .inv .loop) .now .ss-size) (c .before .before .before .before .before .before .before .before .before .before .before .before .before .if2 .taken) _ (getD-any (c .before .before .before .before .before .before .before .before .before .before .before .before .before .before .before .before .before .before .before .before .before .loop .scanners) (c .before .before .before .before .before .before .before .before .before .before .before .before .before .before .before .before .before .moment-at .result .owner) _ idle (omega (arith, (c .before .before .before .before .before .before .before .before .before .before .before .before .before .before .before .before .before .before .before .before .before .loop .inv .loop) .now .ss-size, (c .before .before .before .before .before .before .before .before .before .before .before .before .before .if2 .taken)))) _ (c .before .before .before .before .before .before .before .before .before .before .scans .ensures) (s .0 .taken) _ (getD-any (c .before .before .before .before .before .before .before .before .before .before .before .before .before .before .before .before .before .before .before .before .before .loop .scanners) (c .before .before .before .before .before .before .before .before .before .before .before .before .before .before .before .before .before .moment-at .result .owner) _ idle (omega (arith, (c .before .before .before .before .before .before .before .before .before .before .before .before .before .before .before .before .before .before .before .before .before .loop .inv .loop) .now .ss-size, (c .before .before .before .before .before .before .before .before .before .before .before .before .before .if2 .taken)))) _ (s .2 .ensures) _ _ (s .5) (s .6)) (λ s. scanned-kept _ _ _ _ ((c .before .before .before .before .before .before .before .before .before .before .before .before .before .before .before .before .before .before .before .before .before .loop .inv .loop) .now .ss-size) (c .before .before .before .before .before .before .before .before .before .before .before .before .before .if2 .taken) _ (getD-any (c .before .before .before .before .before .before .before .before .before .before .before .before .before .before .before .before .before .before .before .before .before .loop .scanners) (c .before .before .before .before .before .before .before .before .before .before .before .before .before .before .before .before .before .moment-at .result .owner) _ idle (omega (arith, (c .before .before .before .before .before .before .before .before .before .before .before .before .before .before .before .before .before .before .before .before .before .loop .inv .loop) .now .ss-size, (c .before .before .before .before .before .before .before .before .before .before .before .before .before .if2 .taken)))) _ (c .before .before .before .before .before .before .before .before .before .before .scans .ensures) (s .0 .left) _ _ (s .1) (s .2 ∙ c .before .before .before .before .before .before .before .before .before .before .before .unfed .ensures)) (c .before .before .before .before .before .before .before .before .before .if3 .came)) _ _ (c .before .before .before .before .before .front .ensures) _ (getD-any (c .before .before .before .before .before .before .before .before .before .before .before .before .before .before .before .before .before .before .before .before .before .before .before .before .before .before .before .before .before .models .result) (c .before .before .before .before .before .before .before .before .before .before .before .before .before .before .before .before .before .moment-at .result .owner) _ unusedModel (omega (arith, (c .before .before .before .before .before .before .before .before .before .before .before .before .before .before .before .before .before .before .before .before .before .before .before .before .before .before .before .before .before .models .ensures) .size, (c .before .before .before .before .before .before .before .before .before .before .before .before .before .if2 .taken))) ∙ (c .before .before .before .before .before .before .before .before .before .before .before .before .before .before .before .before .before .before .before .before .before .before .before .before .before .before .before .before .before .models .ensures) .at (c .before .before .before .before .before .before .before .before .before .before .before .before .before .before .before .before .before .moment-at .result .owner) (c .before .before .before .before .before .before .before .before .before .before .before .before .before .if2 .taken)) _ _ _ refl _ (v .11) (v .0 .taken) _ (getD-any (c .before .before .before .before .before .before .before .before .before .before .before .before .before .before .before .before .before .before .before .before .before .loop .videos) (c .before .before .before .before .before .before .before .before .before .before .before .before .before .before .before .before .before .moment-at .result .owner) _ video-work.newBranch (omega (arith, (c .before .before .before .before .before .before .before .before .before .before .before .before .before .before .before .before .before .before .before .before .before .loop .inv .loop) .now .vs-size, (c .before .before .before .before .before .before .before .before .before .before .before .before .before .if2 .taken)))) _ (v .7 .ensures) _ (c .if5 .taken) (sym (v .16) ∙ c .if5 .taken) refl refl)
-    (λ v. main-refuses _ (c .before .before .before .before .before .before .before .before .before .before .before .before .before .before .before .before .before .before .before .before .before .loop .inv .ready) _ _ _ _ _ _ _ _ _ _ _ (c .before .before .before .before .before .before .before .before .before .before .before .before .before .before .before .before .before .before .before .before .before .loop .inv .loop) (c .before .before .before .before .before .before .before .before .before .before .before .before .before .before .before .before .before .before .before .if1 .taken) _ _ _ (c .before .before .before .before .before .before .before .before .before .before .before .before .before .before .before .before .before .before .window-at .ensures) _ (c .before .before .before .before .before .before .before .before .before .before .before .before .before .before .before .before .before .before .before .before .before .before .before .before .before .before .before .before .before .before .before .pids .ensures) (c .before .before .before .before .before .before .before .before .before .before .before .before .before .before .before .before .before .moment-at .ensures) _ (one-more _ (c .before .before .before .before .before .before .before .before .before .before .before .before .before .before .before .before .before .before .before .before .before .before .before .before .before .before .before .before .before .before .before .before .before .before .before .before .before .pre .0)) (c .before .before .before .before .before .before .before .before .before .before .before .before .before .before .before .next .ensures) (c .before .before .before .before .before .before .before .before .before .before .before .before .before .before .before .before .before .moment-at .result .owner) refl (c .before .before .before .before .before .before .before .before .before .before .before .before .before .if2 .taken) _ (getD-any (c .before .before .before .before .before .before .before .before .before .before .before .before .before .before .before .before .before .before .before .before .before .loop .tbs) (c .before .before .before .before .before .before .before .before .before .before .before .before .before .before .before .before .before .moment-at .result .owner) _ unusedTb (omega (arith, (c .before .before .before .before .before .before .before .before .before .before .before .before .before .before .before .before .before .before .before .before .before .loop .inv .loop) .now .ts-size, (c .before .before .before .before .before .before .before .before .before .before .before .before .before .if2 .taken)))) _ _ (⊎-elim (λ s. scanned-fed _ _ _ _ ((c .before .before .before .before .before .before .before .before .before .before .before .before .before .before .before .before .before .before .before .before .before .loop .inv .loop) .now .ss-size) (c .before .before .before .before .before .before .before .before .before .before .before .before .before .if2 .taken) _ (getD-any (c .before .before .before .before .before .before .before .before .before .before .before .before .before .before .before .before .before .before .before .before .before .loop .scanners) (c .before .before .before .before .before .before .before .before .before .before .before .before .before .before .before .before .before .moment-at .result .owner) _ idle (omega (arith, (c .before .before .before .before .before .before .before .before .before .before .before .before .before .before .before .before .before .before .before .before .before .loop .inv .loop) .now .ss-size, (c .before .before .before .before .before .before .before .before .before .before .before .before .before .if2 .taken)))) _ (c .before .before .before .before .before .before .before .before .before .before .scans .ensures) (s .0 .taken) _ (getD-any (c .before .before .before .before .before .before .before .before .before .before .before .before .before .before .before .before .before .before .before .before .before .loop .scanners) (c .before .before .before .before .before .before .before .before .before .before .before .before .before .before .before .before .before .moment-at .result .owner) _ idle (omega (arith, (c .before .before .before .before .before .before .before .before .before .before .before .before .before .before .before .before .before .before .before .before .before .loop .inv .loop) .now .ss-size, (c .before .before .before .before .before .before .before .before .before .before .before .before .before .if2 .taken)))) _ (s .2 .ensures) _ _ (s .5) (s .6)) (λ s. scanned-kept _ _ _ _ ((c .before .before .before .before .before .before .before .before .before .before .before .before .before .before .before .before .before .before .before .before .before .loop .inv .loop) .now .ss-size) (c .before .before .before .before .before .before .before .before .before .before .before .before .before .if2 .taken) _ (getD-any (c .before .before .before .before .before .before .before .before .before .before .before .before .before .before .before .before .before .before .before .before .before .loop .scanners) (c .before .before .before .before .before .before .before .before .before .before .before .before .before .before .before .before .before .moment-at .result .owner) _ idle (omega (arith, (c .before .before .before .before .before .before .before .before .before .before .before .before .before .before .before .before .before .before .before .before .before .loop .inv .loop) .now .ss-size, (c .before .before .before .before .before .before .before .before .before .before .before .before .before .if2 .taken)))) _ (c .before .before .before .before .before .before .before .before .before .before .scans .ensures) (s .0 .left) _ _ (s .1) (s .2 ∙ c .before .before .before .before .before .before .before .before .before .before .before .unfed .ensures)) (c .before .before .before .before .before .before .before .before .before .if3 .came)) _ _ (c .before .before .before .before .before .front .ensures) _ (getD-any (c .before .before .before .before .before .before .before .before .before .before .before .before .before .before .before .before .before .before .before .before .before .before .before .before .before .before .before .before .before .models .result) (c .before .before .before .before .before .before .before .before .before .before .before .before .before .before .before .before .before .moment-at .result .owner) _ unusedModel (omega (arith, (c .before .before .before .before .before .before .before .before .before .before .before .before .before .before .before .before .before .before .before .before .before .before .before .before .before .before .before .before .before .models .ensures) .size, (c .before .before .before .before .before .before .before .before .before .before .before .before .before .if2 .taken))) ∙ (c .before .before .before .before .before .before .before .before .before .before .before .before .before .before .before .before .before .before .before .before .before .before .before .before .before .before .before .before .before .models .ensures) .at (c .before .before .before .before .before .before .before .before .before .before .before .before .before .before .before .before .before .moment-at .result .owner) (c .before .before .before .before .before .before .before .before .before .before .before .before .before .if2 .taken)) _ _ _ refl _ (v .11) (v .0 .left) _ (getD-any (c .before .before .before .before .before .before .before .before .before .before .before .before .before .before .before .before .before .before .before .before .before .loop .mains) (c .before .before .before .before .before .before .before .before .before .before .before .before .before .before .before .before .before .moment-at .result .owner) _ main-work.newBranch (omega (arith, (c .before .before .before .before .before .before .before .before .before .before .before .before .before .before .before .before .before .before .before .before .before .loop .inv .loop) .now .ms-size, (c .before .before .before .before .before .before .before .before .before .before .before .before .before .if2 .taken)))) _ (v .7 .ensures) _ (c .if5 .taken) (sym (v .16) ∙ c .if5 .taken) refl refl)
+    (λ v. video-refuses _ (c .before .before .before .before .before .before .before .before .before .before .before .before .before .before .before .before .before .before .before .before .before .before .loop .inv .ready) _ _ _ _ _ _ _ _ _ _ _ (c .before .before .before .before .before .before .before .before .before .before .before .before .before .before .before .before .before .before .before .before .before .before .loop .inv .loop) (c .before .before .before .before .before .before .before .before .before .before .before .before .before .before .before .before .before .before .before .before .if1 .taken) _ _ _ (c .before .before .before .before .before .before .before .before .before .before .before .before .before .before .before .before .before .before .before .window-at .ensures) _ (c .before .before .before .before .before .before .before .before .before .before .before .before .before .before .before .before .before .before .before .before .before .before .before .before .before .before .before .before .before .before .before .before .pids .ensures) (c .before .before .before .before .before .before .before .before .before .before .before .before .before .before .before .before .before .moment-at .ensures _ (c .before .before .before .before .before .before .before .before .before .before .before .before .before .before .before .before .before .before .before .before .before .before .before .before .before .before .before .before .before .before .before .owner-table .ensures)) _ (one-more _ (c .before .before .before .before .before .before .before .before .before .before .before .before .before .before .before .before .before .before .before .before .before .before .before .before .before .before .before .before .before .before .before .before .before .before .before .before .before .before .pre .0)) (c .before .before .before .before .before .before .before .before .before .before .before .before .before .before .before .next .ensures) (c .before .before .before .before .before .before .before .before .before .before .before .before .before .before .before .before .before .moment-at .result .owner) refl (c .before .before .before .before .before .before .before .before .before .before .before .before .before .if2 .taken) _ (getD-any (c .before .before .before .before .before .before .before .before .before .before .before .before .before .before .before .before .before .before .before .before .before .before .loop .tbs) (c .before .before .before .before .before .before .before .before .before .before .before .before .before .before .before .before .before .moment-at .result .owner) _ unusedTb (omega (arith, (c .before .before .before .before .before .before .before .before .before .before .before .before .before .before .before .before .before .before .before .before .before .before .loop .inv .loop) .now .ts-size, (c .before .before .before .before .before .before .before .before .before .before .before .before .before .if2 .taken)))) _ _ (⊎-elim (λ s. scanned-fed _ _ _ _ ((c .before .before .before .before .before .before .before .before .before .before .before .before .before .before .before .before .before .before .before .before .before .before .loop .inv .loop) .now .ss-size) (c .before .before .before .before .before .before .before .before .before .before .before .before .before .if2 .taken) _ (getD-any (c .before .before .before .before .before .before .before .before .before .before .before .before .before .before .before .before .before .before .before .before .before .before .loop .scanners) (c .before .before .before .before .before .before .before .before .before .before .before .before .before .before .before .before .before .moment-at .result .owner) _ idle (omega (arith, (c .before .before .before .before .before .before .before .before .before .before .before .before .before .before .before .before .before .before .before .before .before .before .loop .inv .loop) .now .ss-size, (c .before .before .before .before .before .before .before .before .before .before .before .before .before .if2 .taken)))) _ (c .before .before .before .before .before .before .before .before .before .before .scans .ensures) (s .0 .taken) _ (getD-any (c .before .before .before .before .before .before .before .before .before .before .before .before .before .before .before .before .before .before .before .before .before .before .loop .scanners) (c .before .before .before .before .before .before .before .before .before .before .before .before .before .before .before .before .before .moment-at .result .owner) _ idle (omega (arith, (c .before .before .before .before .before .before .before .before .before .before .before .before .before .before .before .before .before .before .before .before .before .before .loop .inv .loop) .now .ss-size, (c .before .before .before .before .before .before .before .before .before .before .before .before .before .if2 .taken)))) _ (s .2 .ensures) _ _ (s .5) (s .6)) (λ s. scanned-kept _ _ _ _ ((c .before .before .before .before .before .before .before .before .before .before .before .before .before .before .before .before .before .before .before .before .before .before .loop .inv .loop) .now .ss-size) (c .before .before .before .before .before .before .before .before .before .before .before .before .before .if2 .taken) _ (getD-any (c .before .before .before .before .before .before .before .before .before .before .before .before .before .before .before .before .before .before .before .before .before .before .loop .scanners) (c .before .before .before .before .before .before .before .before .before .before .before .before .before .before .before .before .before .moment-at .result .owner) _ idle (omega (arith, (c .before .before .before .before .before .before .before .before .before .before .before .before .before .before .before .before .before .before .before .before .before .before .loop .inv .loop) .now .ss-size, (c .before .before .before .before .before .before .before .before .before .before .before .before .before .if2 .taken)))) _ (c .before .before .before .before .before .before .before .before .before .before .scans .ensures) (s .0 .left) _ _ (s .1) (s .2 ∙ c .before .before .before .before .before .before .before .before .before .before .before .unfed .ensures)) (c .before .before .before .before .before .before .before .before .before .if3 .came)) _ _ (c .before .before .before .before .before .front .ensures) _ (getD-any (c .before .before .before .before .before .before .before .before .before .before .before .before .before .before .before .before .before .before .before .before .before .before .before .before .before .before .before .before .before .before .models .result) (c .before .before .before .before .before .before .before .before .before .before .before .before .before .before .before .before .before .moment-at .result .owner) _ unusedModel (omega (arith, (c .before .before .before .before .before .before .before .before .before .before .before .before .before .before .before .before .before .before .before .before .before .before .before .before .before .before .before .before .before .before .models .ensures) .size, (c .before .before .before .before .before .before .before .before .before .before .before .before .before .if2 .taken))) ∙ (c .before .before .before .before .before .before .before .before .before .before .before .before .before .before .before .before .before .before .before .before .before .before .before .before .before .before .before .before .before .before .models .ensures) .at (c .before .before .before .before .before .before .before .before .before .before .before .before .before .before .before .before .before .moment-at .result .owner) (c .before .before .before .before .before .before .before .before .before .before .before .before .before .if2 .taken)) _ _ _ refl _ (v .11) (v .0 .taken) _ (getD-any (c .before .before .before .before .before .before .before .before .before .before .before .before .before .before .before .before .before .before .before .before .before .before .loop .videos) (c .before .before .before .before .before .before .before .before .before .before .before .before .before .before .before .before .before .moment-at .result .owner) _ video-work.newBranch (omega (arith, (c .before .before .before .before .before .before .before .before .before .before .before .before .before .before .before .before .before .before .before .before .before .before .loop .inv .loop) .now .vs-size, (c .before .before .before .before .before .before .before .before .before .before .before .before .before .if2 .taken)))) _ (v .7 .ensures) _ (c .if5 .taken) (sym (v .16) ∙ c .if5 .taken) refl refl)
+    (λ v. main-refuses _ (c .before .before .before .before .before .before .before .before .before .before .before .before .before .before .before .before .before .before .before .before .before .before .loop .inv .ready) _ _ _ _ _ _ _ _ _ _ _ (c .before .before .before .before .before .before .before .before .before .before .before .before .before .before .before .before .before .before .before .before .before .before .loop .inv .loop) (c .before .before .before .before .before .before .before .before .before .before .before .before .before .before .before .before .before .before .before .before .if1 .taken) _ _ _ (c .before .before .before .before .before .before .before .before .before .before .before .before .before .before .before .before .before .before .before .window-at .ensures) _ (c .before .before .before .before .before .before .before .before .before .before .before .before .before .before .before .before .before .before .before .before .before .before .before .before .before .before .before .before .before .before .before .before .pids .ensures) (c .before .before .before .before .before .before .before .before .before .before .before .before .before .before .before .before .before .moment-at .ensures _ (c .before .before .before .before .before .before .before .before .before .before .before .before .before .before .before .before .before .before .before .before .before .before .before .before .before .before .before .before .before .before .before .owner-table .ensures)) _ (one-more _ (c .before .before .before .before .before .before .before .before .before .before .before .before .before .before .before .before .before .before .before .before .before .before .before .before .before .before .before .before .before .before .before .before .before .before .before .before .before .before .pre .0)) (c .before .before .before .before .before .before .before .before .before .before .before .before .before .before .before .next .ensures) (c .before .before .before .before .before .before .before .before .before .before .before .before .before .before .before .before .before .moment-at .result .owner) refl (c .before .before .before .before .before .before .before .before .before .before .before .before .before .if2 .taken) _ (getD-any (c .before .before .before .before .before .before .before .before .before .before .before .before .before .before .before .before .before .before .before .before .before .before .loop .tbs) (c .before .before .before .before .before .before .before .before .before .before .before .before .before .before .before .before .before .moment-at .result .owner) _ unusedTb (omega (arith, (c .before .before .before .before .before .before .before .before .before .before .before .before .before .before .before .before .before .before .before .before .before .before .loop .inv .loop) .now .ts-size, (c .before .before .before .before .before .before .before .before .before .before .before .before .before .if2 .taken)))) _ _ (⊎-elim (λ s. scanned-fed _ _ _ _ ((c .before .before .before .before .before .before .before .before .before .before .before .before .before .before .before .before .before .before .before .before .before .before .loop .inv .loop) .now .ss-size) (c .before .before .before .before .before .before .before .before .before .before .before .before .before .if2 .taken) _ (getD-any (c .before .before .before .before .before .before .before .before .before .before .before .before .before .before .before .before .before .before .before .before .before .before .loop .scanners) (c .before .before .before .before .before .before .before .before .before .before .before .before .before .before .before .before .before .moment-at .result .owner) _ idle (omega (arith, (c .before .before .before .before .before .before .before .before .before .before .before .before .before .before .before .before .before .before .before .before .before .before .loop .inv .loop) .now .ss-size, (c .before .before .before .before .before .before .before .before .before .before .before .before .before .if2 .taken)))) _ (c .before .before .before .before .before .before .before .before .before .before .scans .ensures) (s .0 .taken) _ (getD-any (c .before .before .before .before .before .before .before .before .before .before .before .before .before .before .before .before .before .before .before .before .before .before .loop .scanners) (c .before .before .before .before .before .before .before .before .before .before .before .before .before .before .before .before .before .moment-at .result .owner) _ idle (omega (arith, (c .before .before .before .before .before .before .before .before .before .before .before .before .before .before .before .before .before .before .before .before .before .before .loop .inv .loop) .now .ss-size, (c .before .before .before .before .before .before .before .before .before .before .before .before .before .if2 .taken)))) _ (s .2 .ensures) _ _ (s .5) (s .6)) (λ s. scanned-kept _ _ _ _ ((c .before .before .before .before .before .before .before .before .before .before .before .before .before .before .before .before .before .before .before .before .before .before .loop .inv .loop) .now .ss-size) (c .before .before .before .before .before .before .before .before .before .before .before .before .before .if2 .taken) _ (getD-any (c .before .before .before .before .before .before .before .before .before .before .before .before .before .before .before .before .before .before .before .before .before .before .loop .scanners) (c .before .before .before .before .before .before .before .before .before .before .before .before .before .before .before .before .before .moment-at .result .owner) _ idle (omega (arith, (c .before .before .before .before .before .before .before .before .before .before .before .before .before .before .before .before .before .before .before .before .before .before .loop .inv .loop) .now .ss-size, (c .before .before .before .before .before .before .before .before .before .before .before .before .before .if2 .taken)))) _ (c .before .before .before .before .before .before .before .before .before .before .scans .ensures) (s .0 .left) _ _ (s .1) (s .2 ∙ c .before .before .before .before .before .before .before .before .before .before .before .unfed .ensures)) (c .before .before .before .before .before .before .before .before .before .if3 .came)) _ _ (c .before .before .before .before .before .front .ensures) _ (getD-any (c .before .before .before .before .before .before .before .before .before .before .before .before .before .before .before .before .before .before .before .before .before .before .before .before .before .before .before .before .before .before .models .result) (c .before .before .before .before .before .before .before .before .before .before .before .before .before .before .before .before .before .moment-at .result .owner) _ unusedModel (omega (arith, (c .before .before .before .before .before .before .before .before .before .before .before .before .before .before .before .before .before .before .before .before .before .before .before .before .before .before .before .before .before .before .models .ensures) .size, (c .before .before .before .before .before .before .before .before .before .before .before .before .before .if2 .taken))) ∙ (c .before .before .before .before .before .before .before .before .before .before .before .before .before .before .before .before .before .before .before .before .before .before .before .before .before .before .before .before .before .before .models .ensures) .at (c .before .before .before .before .before .before .before .before .before .before .before .before .before .before .before .before .before .moment-at .result .owner) (c .before .before .before .before .before .before .before .before .before .before .before .before .before .if2 .taken)) _ _ _ refl _ (v .11) (v .0 .left) _ (getD-any (c .before .before .before .before .before .before .before .before .before .before .before .before .before .before .before .before .before .before .before .before .before .before .loop .mains) (c .before .before .before .before .before .before .before .before .before .before .before .before .before .before .before .before .before .moment-at .result .owner) _ main-work.newBranch (omega (arith, (c .before .before .before .before .before .before .before .before .before .before .before .before .before .before .before .before .before .before .before .before .before .before .loop .inv .loop) .now .ms-size, (c .before .before .before .before .before .before .before .before .before .before .before .before .before .if2 .taken)))) _ (v .7 .ensures) _ (c .if5 .taken) (sym (v .16) ∙ c .if5 .taken) refl refl)
     (c .before .if4 .came)
 
 same-length-2 : tie.Need-same-length-2 Inv-loop μ-loop
@@ -259,7 +259,7 @@ run-spec =
     mul-from
     mul-from-2
     pids-requires
-    free-pids-requires
+    owner-table-requires
     models-requires
     tbs-requires
     new-requires
