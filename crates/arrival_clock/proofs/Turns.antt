@@ -1,23 +1,52 @@
--- The pass packet by packet: one packet, one turn of the loop, and the end. Assumes nothing.
-use Prim.Native.Nat.{ℕ, suc, _+_, _-_, _≤_, _<_}
+-- The pass by turns of the loop: packets that change the start alone, one packet that is parsed, and the end. Assumes nothing.
+use Prim.Native.Nat.{ℕ, zero, suc, _+_, _-_, _*_, _/_, _≤_, _<_, min}
 use mathlib.Core.Path.{_≡_, refl, sym}
+use mathlib.Core.Bool.{Bool, true, false, cond}
 use mathlib.Core.List.{List}
 use native.Mathlib.Omega.{arith}
+use lib.Dec.{leb}
 use lib.Ieee.{Float}
-use Rattle.packet.specs.declared.Parse.{Parse}
+use borrow.Author.Tests.{leb-true, leb-false}
 use Rattle.packet.specs.declared.TsPacketLayout.{TsPacketLayout}
 use Rattle.packet.specs.Packet.{parseOf}
 use Rattle.recording.specs.Read.{packetAt}
 use Rattle.arrival.specs.declared.ClockAnswer.{ClockAnswer}
 use Rattle.arrival.specs.declared.ClockPass.{ClockPass}
-use Rattle.arrival.specs.Pass.{noPacket, answerOf, Passing, passPacket, passPackets, Passes}
+use Rattle.arrival.specs.Work.{never}
+use Rattle.arrival.specs.Pass.{noPacket, answerOf, Passing, otherPacket, passPacket, passPackets, Passes}
+use Rattle.arrival.proofs.Passing.{other-passes}
 use Rattle.arrival_clock.specs.Clock.{parsesFrom, passOver, Answers}
+use Rattle.arrival_clock.specs.Stretch.{NoFieldOn}
 
--- ---- one packet
-module _ (pcrPid depth from : ℕ) (w : Passing) {r r' : ClockPass} {t t' : List Float} {q q' : List ℕ}
-    (same : r' ≡ r) (same-times : t' ≡ t) (same-places : q' ≡ q) where
-  pub parsed-passes : {parsed p : Parse} → parsed ≡ p → Passes (passPacket pcrPid depth from w parsed) r t q → Passes (passPacket pcrPid depth from w p) r' t' q'
-  parsed-passes e g = rw (same, same-times, same-places) (rw e at g)
+-- ---- the start
+-- behind one packet, and behind n
+abbrev nextStart : ℕ → ℕ
+nextStart start = cond (leb start (never - 188)) (start + 188) start
+
+abbrev startBehind : ℕ → ℕ → ℕ
+startBehind start n = start + 188 * min n ((never - start) / 188)
+
+start-none : (start : ℕ) → startBehind start 0 ≡ start
+start-none start = omega arith
+
+start-more : (start n : ℕ) → startBehind start (suc n) ≡ startBehind (nextStart start) n
+start-more start n = go (leb start (never - 188)) refl
+  where
+    go : (t : Bool) → leb start (never - 188) ≡ t → startBehind start (suc n) ≡ startBehind (cond t (start + 188) start) n
+    go true e = omega (arith, leb-true start (never - 188) e)
+    go false e = omega (arith, leb-false start (never - 188) e)
+
+abbrev startsAt : ClockPass → ℕ → ClockPass
+startsAt b start = record { start = start; «pending_discontinuity» = b .«pending_discontinuity»; build = b .build }
+
+-- a packet that does not speak of the clock changes the start alone
+moved-other : (b : ClockPass) → startsAt b (nextStart (b .start)) ≡ otherPacket b
+unfolding otherPacket
+moved-other b = by (leb (b .start) (never - 188))
+  where
+    by : (t : Bool) → startsAt b (cond t (b .start + 188) (b .start)) ≡ cond t (startsAt b (b .start + 188)) b
+    by true = refl
+    by false = refl
 
 -- ---- the loop: the packets that are left lead from here to where all packets lead from the start
 module _ (pcrPid depth from : ℕ) (y : TsPacketLayout) (l : List ℕ) (count : ℕ) where
@@ -50,3 +79,21 @@ module _ (pcrPid depth from : ℕ) (y : TsPacketLayout) (l : List ℕ) (count : 
         let none : count - k ≡ 0 = omega arith in
         let at-end : record { pass = pass; times = times; places = places } ≡ end = rw none at (here .ends) in
         rw (sym at-end) (record { answer-is = e; times-are = refl; places-are = refl })
+
+  others-from : (end : Passing) (n : ℕ) {k : ℕ} {pass : ClockPass} {times : List Float} {places : List ℕ} → Leads end k pass times places → k + n ≤ count
+      → NoFieldOn pcrPid y l k (k + n) → Leads end (k + n) (startsAt pass (startBehind (pass .start) n)) times places
+  others-from end zero {k} {pass} here fits none =
+      let e : k + 0 ≡ k = omega arith in
+      rw (start-none (pass .start), e) here
+  others-from end (suc n) {k} {pass} here fits none =
+      let e : k + suc n ≡ k + 1 + n = omega arith in
+      let one = next-leads end here (omega arith) refl (other-passes depth from pass _ _ pcrPid _ _ (none k (omega arith) (omega arith)) (moved-other pass)) in
+      rw (start-more (pass .start) n, e) (others-from end n one (omega arith) (λ i onward before. none i (omega arith) (omega arith)))
+
+  -- packets without a field on the PCR PID, up to the next one
+  pub others-lead : (end : Passing) {k : ℕ} {pass : ClockPass} {times : List Float} {places : List ℕ} → Leads end k pass times places
+      → {next : ℕ} → k ≤ next → next ≤ count → NoFieldOn pcrPid y l k next
+      → {start : ℕ} → start ≡ startBehind (pass .start) (next - k) → Leads end next (startsAt pass start) times places
+  others-lead end {k} here {next} onward within none e =
+      let to : k + (next - k) ≡ next = omega arith in
+      rw e (rw to at (others-from end (next - k) here (omega arith) (rw to none)))
