@@ -9,7 +9,7 @@ use native.Mathlib.Omega.{arith}
 use native.Mathlib.Nat.{sub-zero}
 use lib.Dec.{eqb, ltb}
 use lib.ListN.{length, getD}
-use borrow.Author.Tests.{lt-ltb, le-ltb}
+use borrow.Author.Tests.{lt-ltb, le-ltb, ne-eqb}
 use Rattle.syntax.specs.Bits.{bits}
 use Rattle.syntax.specs.Table.{field, offset}
 use Rattle.syntax.specs.AdaptationField.{hasFlags, table-2-6, dtsNextAu}
@@ -338,6 +338,24 @@ module _ (s : List ℕ) (h : Bytes s) where
       → isSet s "transport_private_data_flag" ≡ false → isSet s "adaptation_field_extension_flag" ≡ false → roomOf s ≡ Room.Enough
   unfolding roomOf dataRoom wants
   no-room a b c d e = rw (a, b, c, d) (no-extension-room e)
+
+  -- a field with no part but a PCR, and room for that
+  pub pcr-room : (f : ℕ) → Flagged s f → f % 16 ≡ 0 → 8 ≤ length s → roomOf s ≡ Room.Enough
+  unfolding roomOf dataRoom
+  pcr-room f k z l =
+      wants-by (length s) (place s "program_clock_reference_base") 2 6 6 (isSet s "PCR_flag") (isSet s "PCR_flag") _ _ refl
+      (λ on. byte-of (offset table-2-6 s "program_clock_reference_base") 2 (fields.at-pcr s (has-flags f k) h on)) (λ on. refl)
+      (no-wants (length s) _ 6 _ _ (opcr-on f k ∙ ne-eqb (f / 8 % 2) 1 (λ e. omega arith))
+      ∙ (no-wants (length s) _ 1 _ _ (countdown-on f k ∙ ne-eqb (f / 4 % 2) 1 (λ e. omega arith))
+      ∙ (no-wants (length s) _ 1 _ _ none ∙ (no-wants (length s) _ _ _ _ none ∙ no-extension-room (extension-on f k ∙ ne-eqb (f % 2) 1 (λ e. omega arith))))))
+      ∙ rw (le-ltb (length s) 8 l) (either (isSet s "PCR_flag"))
+    where
+      none : isSet s "transport_private_data_flag" ≡ false
+      none = private-on f k ∙ ne-eqb (f / 2 % 2) 1 (λ e. omega arith)
+
+      either : (q : Bool) → cond (q && false) (Room.Truncated (length s - 2) 6) Room.Enough ≡ Room.Enough
+      either true = refl
+      either false = refl
 
   -- the length byte
   length-is : read s "adaptation_field_length" ≡ getD s 0 0

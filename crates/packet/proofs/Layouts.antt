@@ -17,7 +17,7 @@ use Rattle.packet.specs.Layout.{inSync, onGrid, layout, layoutOf, window
 use Rattle.packet.specs.Packet.{payloadOf}
 use Rattle.packet.proofs.Grid.{sync-not, in-packet}
 
-and-true : (a b : Bool) → a && b ≡ true → (a ≡ true) × (b ≡ true)
+pub and-true : (a b : Bool) → a && b ≡ true → (a ≡ true) × (b ≡ true)
 and-true true true h = (refl, refl)
 and-true true false h = absurd (true≢false (sym h))
 and-true false b h = absurd (true≢false (sym h))

@@ -514,6 +514,7 @@ fn flagged_field(raw: &[u8], f: u8, p: Places) -> AdaptationField
 }
 
 // Whether the adaptation field that is the whole of `raw`, its length byte first, holds every part that it flags.
+// Most fields have no part but a PCR, which is seen first.
 // Ruled out: room for a PCR in a field of length 1; no room in a field of length 0.
 pub fn adaptation_field_room(raw: &[u8]) -> Room
     ensures { λ r. ⌜ r ≡ fieldRoom (now (raw .entry)) ⌝ }
@@ -528,6 +529,9 @@ pub fn adaptation_field_room(raw: &[u8]) -> Room
         };
     }
     let f = raw[1];
+    if (f % 16 == 0) & (8 <= raw.len()) {
+        return Room::Enough;
+    }
     let p = places_of(raw, f);
     field_room(raw, f, p)
 }
