@@ -14,7 +14,7 @@ const BYTES: usize = 1_000_000;
 /// Bytes a second of the arrival.
 const RATE: u64 = 4_000_000;
 /// What a second and longer look is taken at.
-const NEAR: f64 = 0.85;
+const NEAR: f64 = 0.8;
 
 /// A packet that carries no clock. A stream is one of the profile's, drawn for each packet.
 #[derive(Clone, Copy, Debug, PartialEq)]
@@ -203,11 +203,14 @@ struct Search {
     refused: u32,
     /// Our time over the Rust's, and the line that says so, of those near it.
     near: Vec<(f64, String)>,
+    /// The greatest of them when a plain fill of the same work is left out of our time.
+    unfilled: f64,
 }
 
 impl Search {
     fn new() -> Self {
-        Search { m: Memory::default(), budget: Duration::from_millis(40), timed: 0, refused: 0, near: Vec::new() }
+        let budget = Duration::from_millis(40);
+        Search { m: Memory::default(), budget, timed: 0, refused: 0, near: Vec::new(), unfilled: 0.0 }
     }
 
     /// Times a recording that both sides accept, and again for longer if our time is near the Rust's.
@@ -221,7 +224,9 @@ impl Search {
         self.timed += 1;
         if t.ours > NEAR * t.rust {
             let t = bench::alternate(x, &mut self.m, 20, 15 * self.budget)?;
-            self.near.push((t.ours / t.rust, bench::line(x, &t)));
+            let unfilled = (t.ours - bench::fill(&mut self.m)) / t.rust;
+            self.unfilled = self.unfilled.max(unfilled);
+            self.near.push((t.ours / t.rust, format!("{}; {unfilled:.2} less a plain fill", bench::line(x, &t))));
         }
         Ok(())
     }
@@ -236,6 +241,9 @@ impl Search {
             self.refused,
             self.near.len()
         );
+        if over > 0 {
+            println!("  less a plain fill of the work none takes over {:.2} of the Rust's time", self.unfilled);
+        }
         for (_, line) in self.near.iter().take(8) {
             println!("    {line}");
         }
@@ -244,7 +252,8 @@ impl Search {
 }
 
 /// Fails if a recording of packets that parse takes longer than with the Rust. Those of packets that do not parse are
-/// shown apart: there the zeroing alone can take longer than the Rust's whole call.
+/// shown apart, since there the zeroing alone can take longer than the Rust's whole call: less a plain fill of the same
+/// work none may take longer.
 pub fn run(seed: u64, count: u64) -> Result<(), String> {
     println!("slowest: recordings of {BYTES} bytes and up to a packet more, seed {seed}; both sides in turn, the least of the runs");
     let mut rng = Rng::new(seed);
@@ -268,7 +277,7 @@ pub fn run(seed: u64, count: u64) -> Result<(), String> {
         unparsed.time(&plan.input(&mut rng))?;
     }
     unparsed.show("packets that do not parse among them");
-    let worst = parsed.show("packets that parse");
+    let worst = parsed.show("packets that parse").max(unparsed.unfilled);
     if worst > 1.0 {
         return Err(format!("slowest: a recording takes {worst:.2} of the Rust's time"));
     }
