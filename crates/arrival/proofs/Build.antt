@@ -18,12 +18,12 @@ use Rattle.arrival.specs.declared.RateInterval.{RateInterval}
 use Rattle.arrival.specs.declared.Sample.{Sample}
 use Rattle.arrival.specs.declared.Anchor.{Anchor}
 use Rattle.arrival.specs.declared.Closed.{Closed}
-use Rattle.arrival.specs.declared.MaybeRefusal.{MaybeRefusal}
+use Rattle.arrival.specs.declared.FirstRefusal.{FirstRefusal}
 use Rattle.arrival.specs.declared.ClockBuild.{ClockBuild}
 use Rattle.arrival.specs.declared.ClockAnswer.{ClockAnswer}
 use Rattle.arrival.specs.ArrivalClock.{Built, intervals, refused, anchorAt, intervalAt, stepped, restarted, stepTo, rateTo, close, and-then, buildFrom, build}
 use Rattle.arrival.specs.Work.{holds, intervalIn, intervalsIn}
-use Rattle.arrival.specs.Pass.{noSample, Building, storeTimes, storePlaces, countedWith, counted, closedBy, isRefused, inRange, takeSample, takeSamples, answerOf, unlessRefused, builtBy, builtIn}
+use Rattle.arrival.specs.Pass.{noSample, Building, storeTimes, storePlaces, countedWith, counted, firstRefusal, closedBy, isRefused, inRange, takeSample, takeSamples, answerOf, unlessRefused, builtBy, builtIn}
 use Rattle.arrival.proofs.Cursors.{Room, holds-room, room-holds}
 
 -- ---- stores side by side
@@ -106,7 +106,7 @@ module _ (depth from : ℕ) where
     pub room : holds depth (w .times) from (w .places) ≡ true
 
   abbrev pub grown : ℕ → Building → Building
-  grown n w = record { build = record { samples = w .build .samples + n; anchor = w .build .anchor; refusal = w .build .refusal }; times = w .times; places = w .places }
+  grown n w = record { build = record { samples = w .build .samples + n; anchor = w .build .anchor; refusal = w .build .refusal; «refused_sample» = w .build .«refused_sample» }; times = w .times; places = w .places }
 
   in-range-of : (b : ClockBuild) (s : Sample) → s .ticks < 2 ^ 42 → b .samples < 2 ^ 63 → b .anchor .extended < 2 ^ 63 → inRange b s ≡ true
   unfolding inRange
@@ -144,24 +144,29 @@ prepended-then : (is : List RateInterval) (i : RateInterval) (b : Built) → pre
 prepended-then is i (intervals js) = ap intervals (append-assoc is (i ∷ []) js)
 prepended-then is i (refused r) = refl
 
--- the anchor behind a sample: one wrap and a raw PCR further at most
-abbrev NotFar : ℕ → Closed → Type 0
-NotFar top (Closed.Closes i a) = a .extended ≤ top
-NotFar top (Closed.Refuses r) = Unit {0}
+-- the refusal of sample number n comes back from what is kept of it, its kind and n
+record Kept (n : ℕ) (r : Refusal) : Type 0 where
+  is-refused : isRefused (firstRefusal r) ≡ true
+  comes-back : (m : ℕ) → unlessRefused (firstRefusal r) n m ≡ ClockAnswer.Refused r
 
-close-not-far : (n : ℕ) (a : Anchor) (s : Sample) (top : ℕ) → s .ticks ≤ top → a .extended + pcrModulus ≤ top → NotFar top (close n a s)
+-- behind sample number n: the anchor is one wrap and a raw PCR further at most, or the refusal is kept
+abbrev Follows : ℕ → ℕ → Closed → Type 0
+Follows n top (Closed.Closes i a) = a .extended ≤ top
+Follows n top (Closed.Refuses r) = Kept n r
+
+close-follows : (n : ℕ) (a : Anchor) (s : Sample) (top : ℕ) → s .ticks ≤ top → a .extended + pcrModulus ≤ top → Follows n top (close n a s)
 unfolding close
-close-not-far n a s top h g = by (s .marked) (eqb n 1) (eqb (stepTo a s) 0) (lt (rateTo a s) 1000f || lt 1000000000f (rateTo a s))
+close-follows n a s top h g = by (s .marked) (eqb n 1) (eqb (stepTo a s) 0) (lt (rateTo a s) 1000f || lt 1000000000f (rateTo a s))
   where
     by : (m o z r : Bool)
-        → NotFar top
+        → Follows n top
         (cond m (cond o (Closed.Refuses (Refusal.DiscontinuityBeforeRate n)) (Closed.Closes (intervalAt a (a .rate)) (restarted a s)))
         (cond z (Closed.Refuses (Refusal.RepeatedPcr n))
         (cond r (Closed.Refuses (Refusal.RateOutsideLimits n)) (Closed.Closes (intervalAt a (rateTo a s)) (stepped a s)))))
-    by true true z r = tt
+    by true true z r = record { is-refused = refl; comes-back = λ m. refl }
     by true false z r = h
-    by false o true r = tt
-    by false o false true = tt
+    by false o true r = record { is-refused = refl; comes-back = λ m. refl }
+    by false o false true = record { is-refused = refl; comes-back = λ m. refl }
     by false o false false = omega arith
 
 module _ (depth from : ℕ) where
@@ -169,13 +174,13 @@ module _ (depth from : ℕ) where
   abbrev outcome : ℕ → Built → Built
   outcome n b = cond (ltb depth n) (refused (Refusal.ClockFull depth)) (cond (ltb n 2) (refused Refusal.TooFewPcrs) b)
 
-  built-is : (w : Building) → builtIn depth from w ≡ outcome (w .build .samples) (builtBy (unlessRefused (w .build .refusal) (w .build .samples - 1)) from w)
+  built-is : (w : Building) → builtIn depth from w ≡ outcome (w .build .samples) (builtBy (unlessRefused (w .build .refusal) (w .build .«refused_sample») (w .build .samples - 1)) from w)
   unfolding answerOf
   built-is w = by (ltb depth (w .build .samples)) (ltb (w .build .samples) 2)
     where
       by : (t u : Bool)
-          → builtBy (cond t (ClockAnswer.Refused (Refusal.ClockFull depth)) (cond u (ClockAnswer.Refused Refusal.TooFewPcrs) (unlessRefused (w .build .refusal) (w .build .samples - 1)))) from w
-          ≡ cond t (refused (Refusal.ClockFull depth)) (cond u (refused Refusal.TooFewPcrs) (builtBy (unlessRefused (w .build .refusal) (w .build .samples - 1)) from w))
+          → builtBy (cond t (ClockAnswer.Refused (Refusal.ClockFull depth)) (cond u (ClockAnswer.Refused Refusal.TooFewPcrs) (unlessRefused (w .build .refusal) (w .build .«refused_sample») (w .build .samples - 1)))) from w
+          ≡ cond t (refused (Refusal.ClockFull depth)) (cond u (refused Refusal.TooFewPcrs) (builtBy (unlessRefused (w .build .refusal) (w .build .«refused_sample») (w .build .samples - 1)) from w))
       by true u = refl
       by false true = refl
       by false false = refl
@@ -187,7 +192,7 @@ module _ (depth from : ℕ) where
   pub record Standing (k : ℕ) (is : List RateInterval) (w : Building) : Type 0 where
     pub count : w .build .samples ≡ k + 1
     pub few : k ≤ 2 ^ 20
-    pub accepted : w .build .refusal ≡ MaybeRefusal.Absent
+    pub accepted : w .build .refusal ≡ FirstRefusal.Absent
     pub low : w .build .anchor .extended ≤ (k + 1) * 2 ^ 42
     pub room : holds depth (w .times) from (w .places) ≡ true
     pub stand : intervalsIn (w .times) from (w .places) 0 k ≡ is
@@ -216,28 +221,32 @@ module _ (depth from : ℕ) where
       taking h =
           rw (in-range-of depth from (w .build) s l (omega (arith, st .count)) (omega (arith, st .low, st .few)), st .room, ne-eqb (w .build .samples) 0 (λ e. omega (arith, st .count)), st .accepted, st .count, h)
 
+      follows : Follows (k + 1) ((k + 1 + 1) * 2 ^ 42) (close (k + 1) (w .build .anchor) s)
+      follows = close-follows (k + 1) (w .build .anchor) s ((k + 1 + 1) * 2 ^ 42) (omega arith) (omega (arith, st .low))
+
       refusing : leb depth (k + 1) ≡ false → {r : Refusal} → close (k + 1) (w .build .anchor) s ≡ Closed.Refuses r → Builds-to k is w (s ∷ ss)
       unfolding Builds-to takeSamples closedBy buildFrom
       refusing h {r} e =
-          let v = counted w (w .build .anchor) (MaybeRefusal.Present r) in
-          let t : takeSample depth from w s ≡ v = taking h ∙ rw e in
+          let v : Building = record { build = countedWith (w .build) (w .build .anchor) (firstRefusal r) (k + 1); times = w .times; places = w .places } in
+          let kept : Kept (k + 1) r = rw e at follows in
+          let t : takeSample depth from w s ≡ v = taking h ∙ rw (e, st .count) in
           let n : k + 1 + 1 + length ss ≡ k + 1 + suc (length ss) = omega arith in
           ap (λ (x : Building). builtIn depth from (takeSamples depth from x ss)) t
-          ∙ ap (builtIn depth from) (count-all depth from ss v (record { some = omega (arith, st .count); shut = refl; low = omega (arith, st .low, st .few); room = st .room }) ls (omega (arith, st .count)))
+          ∙ ap (builtIn depth from) (count-all depth from ss v (record { some = omega (arith, st .count); shut = rw (kept .is-refused); low = omega (arith, st .low, st .few); room = st .room }) ls (omega (arith, st .count)))
           ∙ built-is (grown depth from (length ss) v)
-          ∙ rw (st .count, n, e)
+          ∙ rw (st .count, n, e, kept .comes-back)
 
       closing : leb depth (k + 1) ≡ false → {i : RateInterval} {a : Anchor} → close (k + 1) (w .build .anchor) s ≡ Closed.Closes i a
           → ((v : Building) → Standing (k + 1) (is ++ (i ∷ [])) v → Builds-to (k + 1) (is ++ (i ∷ [])) v ss) → Builds-to k is w (s ∷ ss)
       unfolding Builds-to takeSamples closedBy buildFrom
       closing h {i} {a} e again =
-          let v : Building = record { build = countedWith (w .build) a (w .build .refusal); times = storeTimes (w .times) from k i; places = storePlaces (w .places) k i } in
+          let v : Building = record { build = countedWith (w .build) a (w .build .refusal) (w .build .«refused_sample»); times = storeTimes (w .times) from k i; places = storePlaces (w .places) k i } in
           let m : w .build .samples - 1 ≡ k = omega (arith, st .count) in
           let t : takeSample depth from w s ≡ v = taking h ∙ rw (e, m) in
           let n : k + 1 + 1 + length ss ≡ k + 1 + suc (length ss) = omega arith in
           let d = leb-false depth (k + 1) h in
           let r = holds-room depth (w .times) from (w .places) (st .room) in
-          let far : NotFar ((k + 1 + 1) * 2 ^ 42) (Closed.Closes i a) = rw e at (close-not-far (k + 1) (w .build .anchor) s ((k + 1 + 1) * 2 ^ 42) (omega arith) (omega (arith, st .low))) in
+          let far : Follows (k + 1) ((k + 1 + 1) * 2 ^ 42) (Closed.Closes i a) = rw e at follows in
           let stand : intervalsIn (storeTimes (w .times) from k i) from (storePlaces (w .places) k i) 0 (k + 1) ≡ is ++ (i ∷ []) =
           rw add-one (store-adds (w .times) from (w .places) k i (omega (arith, r .of-times)) (omega (arith, r .of-places)) k 0 (omega arith) ∙ ap (λ (js : List RateInterval). js ++ (i ∷ [])) (st .stand)) in
           ap (λ (x : Building). builtIn depth from (takeSamples depth from x ss)) t
@@ -261,7 +270,7 @@ module _ (depth from : ℕ) where
       abbrev empty : Building
       empty = record { build = noSample; times = times; places = places }
 
-      first-sample : (s : Sample) → s .ticks < 2 ^ 42 → takeSample depth from empty s ≡ counted empty (anchorAt s) MaybeRefusal.Absent
+      first-sample : (s : Sample) → s .ticks < 2 ^ 42 → takeSample depth from empty s ≡ counted empty (anchorAt s)
       unfolding takeSample
       first-sample s l = rw (in-range-of depth from noSample s l (omega arith) (omega arith), h)
 
@@ -270,7 +279,7 @@ module _ (depth from : ℕ) where
       samples-build [] l small = rw (le-ltb depth 0 (omega arith))
       samples-build (s ∷ ss) l small =
           let n : 1 + length ss ≡ suc (length ss) = omega arith in
-          let begun : Standing 0 [] (counted empty (anchorAt s) MaybeRefusal.Absent) = record { count = refl; few = omega arith; accepted = refl; low = omega (arith, l .0); room = h; stand = refl } in
+          let begun : Standing 0 [] (counted empty (anchorAt s)) = record { count = refl; few = omega arith; accepted = refl; low = omega (arith, l .0); room = h; stand = refl } in
           ap (λ (x : Building). builtIn depth from (takeSamples depth from x ss)) (first-sample s (l .0))
-          ∙ builds ss 0 [] (counted empty (anchorAt s) MaybeRefusal.Absent) begun (l .1) (omega arith)
+          ∙ builds ss 0 [] (counted empty (anchorAt s)) begun (l .1) (omega arith)
           ∙ rw (n, prepended-nil)

@@ -74,7 +74,7 @@ module _ (depth from : ℕ) where
       by (inRange (w .build) s && holds depth (w .times) from (w .places)) (eqb (w .build .samples) 0) (isRefused (w .build .refusal) || leb depth (w .build .samples)) refl
     where
       by : (t z r : Bool) → (isRefused (w .build .refusal) || leb depth (w .build .samples)) ≡ r
-          → KeepsWork w (cond t (cond z (counted w (anchorAt s) (w .build .refusal)) (cond r (counted w (w .build .anchor) (w .build .refusal)) (closedBy from w (close (w .build .samples) (w .build .anchor) s)))) w)
+          → KeepsWork w (cond t (cond z (counted w (anchorAt s)) (cond r (counted w (w .build .anchor)) (closedBy from w (close (w .build .samples) (w .build .anchor) s)))) w)
       by true true r e = keeps-all (w .times) (w .places)
       by true false true e = keeps-all (w .times) (w .places)
       by true false false e = closed-keeps w _ (below-depth (isRefused (w .build .refusal)) depth (w .build .samples) e)

@@ -16,10 +16,10 @@ use Rattle.packet.specs.declared.Parse.{Parse}
 use Rattle.arrival.specs.declared.ClockBuild.{ClockBuild}
 use Rattle.arrival.specs.declared.ClockPass.{ClockPass}
 use Rattle.arrival.specs.declared.ClockAnswer.{ClockAnswer}
-use Rattle.arrival.specs.declared.MaybeRefusal.{MaybeRefusal}
+use Rattle.arrival.specs.declared.FirstRefusal.{FirstRefusal}
 use Rattle.arrival.specs.Samples.{ticksOf, fieldOn, Seen, seenPcr, seenIn}
 use Rattle.arrival.specs.Work.{never}
-use Rattle.arrival.specs.Pass.{takeSample, takeSamples, Builds, answerOf, Passing, passSeen, otherPacket, passField, passPacket, Passes}
+use Rattle.arrival.specs.Pass.{takeSample, takeSamples, Builds, unlessRefused, answerOf, Passing, passSeen, otherPacket, passField, passPacket, Passes}
 
 -- ---- the answer
 module _ (depth : ℕ) (b : ClockBuild) where
@@ -32,14 +32,9 @@ module _ (depth : ℕ) (b : ClockBuild) where
     unfolding answerOf
     answer-few h = rw (le-ltb depth (b .samples) within, lt-ltb (b .samples) 2 h)
 
-    module _ (enough : 2 ≤ b .samples) where
-      pub answer-refused : {r : Refusal} → b .refusal ≡ MaybeRefusal.Present r → answerOf depth b ≡ ClockAnswer.Refused r
-      unfolding answerOf
-      answer-refused e = rw (le-ltb depth (b .samples) within, le-ltb (b .samples) 2 enough, e)
-
-      pub answer-intervals : b .refusal ≡ MaybeRefusal.Absent → answerOf depth b ≡ ClockAnswer.Intervals (b .samples - 1)
-      unfolding answerOf
-      answer-intervals e = rw (le-ltb depth (b .samples) within, le-ltb (b .samples) 2 enough, e)
+    pub answer-first : 2 ≤ b .samples → {r : FirstRefusal} → b .refusal ≡ r → answerOf depth b ≡ unlessRefused r (b .«refused_sample») (b .samples - 1)
+    unfolding answerOf
+    answer-first h e = rw (le-ltb depth (b .samples) within, le-ltb (b .samples) 2 h, e)
 
 -- ---- which field
 module _ (pcrPid : ℕ) {p : Parse} where

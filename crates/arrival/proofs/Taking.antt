@@ -11,11 +11,10 @@ use Rattle.arrival.specs.declared.RateInterval.{RateInterval}
 use Rattle.arrival.specs.declared.Sample.{Sample}
 use Rattle.arrival.specs.declared.Anchor.{Anchor}
 use Rattle.arrival.specs.declared.Closed.{Closed}
-use Rattle.arrival.specs.declared.MaybeRefusal.{MaybeRefusal}
 use Rattle.arrival.specs.declared.ClockBuild.{ClockBuild}
 use Rattle.arrival.specs.ArrivalClock.{anchorAt, close}
 use Rattle.arrival.specs.Work.{holds}
-use Rattle.arrival.specs.Pass.{Building, storeTimes, storePlaces, countedWith, closedBy, isRefused, inRange, takeSample, Builds}
+use Rattle.arrival.specs.Pass.{Building, storeTimes, storePlaces, firstRefusal, countedWith, closedBy, isRefused, inRange, takeSample, Builds}
 use Rattle.arrival.proofs.Cursors.{three}
 
 -- the numbers of a build and a sample are below 2 ^ 63
@@ -44,12 +43,12 @@ module _ (depth from : ℕ) (b : ClockBuild) (times : List Float) (places : List
   w = record { build = b; times = times; places = places }
 
   module _ (x : Closed) (r : ClockBuild) where
-    pub stored : {i : RateInterval} {a : Anchor} (t : List Float) (p : List ℕ) → x ≡ Closed.Closes i a → r ≡ countedWith b a (b .refusal)
+    pub stored : {i : RateInterval} {a : Anchor} (t : List Float) (p : List ℕ) → x ≡ Closed.Closes i a → r ≡ countedWith b a (b .refusal) (b .«refused_sample»)
         → t ≡ storeTimes times from (b .samples - 1) i → p ≡ storePlaces places (b .samples - 1) i → Builds (closedBy from w x) r t p
     unfolding closedBy
     stored t p e g h k = rw e (record { build-is = g; times-are = h; places-are = k })
 
-    pub remembered : {n : Refusal} → x ≡ Closed.Refuses n → r ≡ countedWith b (b .anchor) (MaybeRefusal.Present n) → Builds (closedBy from w x) r times places
+    pub remembered : {n : Refusal} → x ≡ Closed.Refuses n → r ≡ countedWith b (b .anchor) (firstRefusal n) (b .samples) → Builds (closedBy from w x) r times places
     unfolding closedBy
     remembered e g = rw e (record { build-is = g; times-are = refl; places-are = refl })
 
@@ -63,12 +62,12 @@ module _ (depth from : ℕ) (b : ClockBuild) (times : List Float) (places : List
     not-held h = rw (h, and-false) (record { build-is = refl; times-are = refl; places-are = refl })
 
     module _ (r : ClockBuild) (in-64 : inRange b s ≡ true) (held : holds depth times from places ≡ true) where
-      pub first-taken : b .samples ≡ 0 → r ≡ countedWith b (anchorAt s) (b .refusal) → Builds (takeSample depth from w s) r times places
+      pub first-taken : b .samples ≡ 0 → r ≡ countedWith b (anchorAt s) (b .refusal) (b .«refused_sample») → Builds (takeSample depth from w s) r times places
       unfolding takeSample
       first-taken z e = rw (in-64, held, eq-eqb (b .samples) 0 z) (record { build-is = e; times-are = refl; places-are = refl })
 
       module _ (some : b .samples ≡ 0 → ⊥) where
-        pub count-taken : (isRefused (b .refusal) || leb depth (b .samples)) ≡ true → r ≡ countedWith b (b .anchor) (b .refusal)
+        pub count-taken : (isRefused (b .refusal) || leb depth (b .samples)) ≡ true → r ≡ countedWith b (b .anchor) (b .refusal) (b .«refused_sample»)
             → Builds (takeSample depth from w s) r times places
         unfolding takeSample
         count-taken c e = rw (in-64, held, ne-eqb (b .samples) 0 some, c) (record { build-is = e; times-are = refl; places-are = refl })

@@ -15,7 +15,7 @@ use Rattle.arrival.specs.declared.RateInterval.{RateInterval}
 use Rattle.arrival.specs.declared.Sample.{Sample}
 use Rattle.arrival.specs.declared.Anchor.{Anchor}
 use Rattle.arrival.specs.declared.Closed.{Closed}
-use Rattle.arrival.specs.declared.MaybeRefusal.{MaybeRefusal}
+use Rattle.arrival.specs.declared.FirstRefusal.{FirstRefusal}
 use Rattle.arrival.specs.declared.ClockBuild.{ClockBuild}
 use Rattle.arrival.specs.declared.ClockPass.{ClockPass}
 use Rattle.arrival.specs.declared.ClockAnswer.{ClockAnswer}
@@ -25,7 +25,7 @@ use Rattle.arrival.specs.Work.{holds, intervalsIn, never}
 
 -- before the first sample, and before the first packet
 abbrev pub noSample : ClockBuild
-noSample = record { samples = 0; anchor = record { position = 0; extended = 0; time = 0f; rate = 0f }; refusal = MaybeRefusal.Absent }
+noSample = record { samples = 0; anchor = record { position = 0; extended = 0; time = 0f; rate = 0f }; refusal = FirstRefusal.Absent; «refused_sample» = 0 }
 
 abbrev pub noPacket : ClockPass
 noPacket = record { start = 0; «pending_discontinuity» = false; build = noSample }
@@ -45,25 +45,41 @@ unfoldable pub storePlaces : List ℕ → ℕ → RateInterval → List ℕ
 storePlaces places k i = set (set places (2 * k) (i .«start_pos»)) (2 * k + 1) (i .«pcr_ref_90k»)
 
 -- one sample more
-abbrev pub countedWith : ClockBuild → Anchor → MaybeRefusal → ClockBuild
-countedWith b a refusal = record { samples = b .samples + 1; anchor = a; refusal = refusal }
+abbrev pub countedWith : ClockBuild → Anchor → FirstRefusal → ℕ → ClockBuild
+countedWith b a refusal sample = record { samples = b .samples + 1; anchor = a; refusal = refusal; «refused_sample» = sample }
 
-abbrev pub counted : Building → Anchor → MaybeRefusal → Building
-counted w a refusal = record { build = countedWith (w .build) a refusal; times = w .times; places = w .places }
+abbrev pub counted : Building → Anchor → Building
+counted w a = record { build = countedWith (w .build) a (w .build .refusal) (w .build .«refused_sample»); times = w .times; places = w .places }
 
--- by what the sample gave: the interval is stored
+-- a refusal without its sample; `close` gives only the first three
+abbrev pub firstRefusal : Refusal → FirstRefusal
+firstRefusal (Refusal.DiscontinuityBeforeRate sample) = FirstRefusal.DiscontinuityBeforeRate
+firstRefusal (Refusal.RepeatedPcr sample) = FirstRefusal.RepeatedPcr
+firstRefusal (Refusal.RateOutsideLimits sample) = FirstRefusal.RateOutsideLimits
+firstRefusal Refusal.OutsideLimits = FirstRefusal.RateOutsideLimits
+firstRefusal Refusal.WorkTooShort = FirstRefusal.RateOutsideLimits
+firstRefusal Refusal.RecordingTooLong = FirstRefusal.RateOutsideLimits
+firstRefusal Refusal.NoPacketLayout = FirstRefusal.RateOutsideLimits
+firstRefusal Refusal.TooFewPcrs = FirstRefusal.RateOutsideLimits
+firstRefusal (Refusal.ClockFull depth) = FirstRefusal.RateOutsideLimits
+firstRefusal (Refusal.QueueFull packet pid) = FirstRefusal.RateOutsideLimits
+
+-- by what the sample gave: the interval is stored, or the refusal and the sample's number are kept
 unfoldable pub closedBy : ℕ → Building → Closed → Building
 closedBy from w (Closed.Closes i a) =
     record {
-      build = countedWith (w .build) a (w .build .refusal);
+      build = countedWith (w .build) a (w .build .refusal) (w .build .«refused_sample»);
       times = storeTimes (w .times) from (w .build .samples - 1) i;
       places = storePlaces (w .places) (w .build .samples - 1) i;
     }
-closedBy from w (Closed.Refuses r) = counted w (w .build .anchor) (MaybeRefusal.Present r)
+closedBy from w (Closed.Refuses r) =
+    record { build = countedWith (w .build) (w .build .anchor) (firstRefusal r) (w .build .samples); times = w .times; places = w .places }
 
-abbrev pub isRefused : MaybeRefusal → Bool
-isRefused MaybeRefusal.Absent = false
-isRefused (MaybeRefusal.Present r) = true
+abbrev pub isRefused : FirstRefusal → Bool
+isRefused FirstRefusal.Absent = false
+isRefused FirstRefusal.DiscontinuityBeforeRate = true
+isRefused FirstRefusal.RepeatedPcr = true
+isRefused FirstRefusal.RateOutsideLimits = true
 
 -- the numbers stay within 64 bits
 unfoldable pub inRange : ClockBuild → Sample → Bool
@@ -73,8 +89,8 @@ inRange b s = ltb (s .ticks) (2 ^ 63) && ltb (b .samples) (2 ^ 63) && ltb (b .an
 unfoldable pub takeSample : ℕ → ℕ → Building → Sample → Building
 takeSample depth from w s =
     cond (inRange (w .build) s && holds depth (w .times) from (w .places))
-    (cond (eqb (w .build .samples) 0) (counted w (anchorAt s) (w .build .refusal))
-    (cond (isRefused (w .build .refusal) || leb depth (w .build .samples)) (counted w (w .build .anchor) (w .build .refusal))
+    (cond (eqb (w .build .samples) 0) (counted w (anchorAt s))
+    (cond (isRefused (w .build .refusal) || leb depth (w .build .samples)) (counted w (w .build .anchor))
     (closedBy from w (close (w .build .samples) (w .build .anchor) s))))
     w
 
@@ -83,15 +99,17 @@ takeSamples depth from w [] = w
 takeSamples depth from w (s ∷ ss) = takeSamples depth from (takeSample depth from w s) ss
 
 -- the answer at the end: number 8 before 5 before the first of 6, 7 and 9; else how many intervals there are
-abbrev pub unlessRefused : MaybeRefusal → ℕ → ClockAnswer
-unlessRefused MaybeRefusal.Absent n = ClockAnswer.Intervals n
-unlessRefused (MaybeRefusal.Present r) n = ClockAnswer.Refused r
+abbrev pub unlessRefused : FirstRefusal → ℕ → ℕ → ClockAnswer
+unlessRefused FirstRefusal.Absent sample n = ClockAnswer.Intervals n
+unlessRefused FirstRefusal.DiscontinuityBeforeRate sample n = ClockAnswer.Refused (Refusal.DiscontinuityBeforeRate sample)
+unlessRefused FirstRefusal.RepeatedPcr sample n = ClockAnswer.Refused (Refusal.RepeatedPcr sample)
+unlessRefused FirstRefusal.RateOutsideLimits sample n = ClockAnswer.Refused (Refusal.RateOutsideLimits sample)
 
 unfoldable pub answerOf : ℕ → ClockBuild → ClockAnswer
 answerOf depth b =
     cond (ltb depth (b .samples)) (ClockAnswer.Refused (Refusal.ClockFull depth))
     (cond (ltb (b .samples) 2) (ClockAnswer.Refused Refusal.TooFewPcrs)
-    (unlessRefused (b .refusal) (b .samples - 1)))
+    (unlessRefused (b .refusal) (b .«refused_sample») (b .samples - 1)))
 
 -- what a building has come to: the intervals that stand in the work, or a refusal
 abbrev pub builtBy : ClockAnswer → ℕ → Building → Built

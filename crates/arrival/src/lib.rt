@@ -15,7 +15,7 @@ ghost use Rattle.arrival.specs.ArrivalClock.{seconds, anchorAt, stepTo, 
 ghost use Rattle.arrival.specs.Times.{noInterval, timeOf, decodeTimeOrZero};
 ghost use Rattle.arrival.specs.Samples.{ticksOf};
 ghost use Rattle.arrival.specs.Work.{holds, intervalIn, nowhereAt, cursorAt, advance, startOfArrival, nextArrival};
-ghost use Rattle.arrival.specs.Pass.{noSample, storeTimes, storePlaces, isRefused, inRange, countedWith, closedBy, takeSample, Builds, answerOf, noPacket, otherPacket, passField, passPacket, Passes};
+ghost use Rattle.arrival.specs.Pass.{noSample, storeTimes, storePlaces, firstRefusal, isRefused, inRange, countedWith, closedBy, takeSample, Builds, answerOf, noPacket, otherPacket, passField, passPacket, Passes};
 
 // A PCR on the PCR PID: its byte position, its ticks of 27 MHz, and whether a discontinuity is marked at it.
 pub struct Sample {
@@ -38,16 +38,21 @@ pub enum Closed {
     Refuses(Refusal),
 }
 
-pub enum MaybeRefusal {
+// The first refusal, without its sample: with it the enum's padding would be copied for each sample, which costs 4 ns.
+pub enum FirstRefusal {
     Absent,
-    Present(Refusal),
+    DiscontinuityBeforeRate,
+    RepeatedPcr,
+    RateOutsideLimits,
 }
 
 // The clock built so far; its intervals are in lent work.
 pub struct ClockBuild {
     pub samples: usize,
     pub anchor: Anchor,
-    pub refusal: MaybeRefusal,
+    pub refusal: FirstRefusal,
+    // 0 where there is none.
+    pub refused_sample: u64,
 }
 
 // The pass over the packets so far; the next packet begins at `start`.
@@ -210,13 +215,26 @@ fn store_interval(
     places[p + 1] = interval.pcr_ref_90k;
 }
 
-impl MaybeRefusal {
+impl FirstRefusal {
+    // `Anchor::close` gives no refusal but these three kinds.
+    fn of(refusal: Refusal) -> FirstRefusal
+        ensures { λ r. ⌜ r ≡ firstRefusal refusal ⌝ }
+    {
+        match refusal {
+            Refusal::DiscontinuityBeforeRate { sample: _ } => FirstRefusal::DiscontinuityBeforeRate,
+            Refusal::RepeatedPcr { sample: _ } => FirstRefusal::RepeatedPcr,
+            _ => FirstRefusal::RateOutsideLimits,
+        }
+    }
+
     fn is_refused(self) -> bool
         ensures { λ r. ⌜ r ≡ isRefused self ⌝ }
     {
         match self {
-            MaybeRefusal::Absent => false,
-            MaybeRefusal::Present(_) => true,
+            FirstRefusal::Absent => false,
+            FirstRefusal::DiscontinuityBeforeRate => true,
+            FirstRefusal::RepeatedPcr => true,
+            FirstRefusal::RateOutsideLimits => true,
         }
     }
 }
@@ -234,7 +252,8 @@ impl ClockBuild {
                 time: 0.0,
                 rate: 0.0,
             },
-            refusal: MaybeRefusal::Absent,
+            refusal: FirstRefusal::Absent,
+            refused_sample: 0,
         }
     }
 
@@ -248,14 +267,15 @@ impl ClockBuild {
     }
 
     // One sample more.
-    fn counted(self, anchor: Anchor, refusal: MaybeRefusal) -> ClockBuild
+    fn counted(self, anchor: Anchor, refusal: FirstRefusal, refused_sample: u64) -> ClockBuild
         requires { ⌜ self .samples < 2 ^ 63 ⌝ }
-        ensures { λ r. ⌜ r ≡ countedWith self anchor refusal ⌝ }
+        ensures { λ r. ⌜ r ≡ countedWith self anchor refusal «refused_sample» ⌝ }
     {
         ClockBuild {
             samples: self.samples + 1,
             anchor,
             refusal,
+            refused_sample,
         }
     }
 
@@ -270,15 +290,16 @@ impl ClockBuild {
         requires { ⌜ (from + 3 * (self .samples - 1) + 2 < length (now times)) × (2 * (self .samples - 1) + 1 < length (now places)) ⌝ }
         ensures { λ r. ⌜ Builds (closedBy from (record { build = self; times = now (times .entry); places = now (places .entry) }) closed) r (now (times .exit)) (now (places .exit)) ⌝ }
     {
-        let refusal = self.refusal;
         match closed {
             Closed::Closes(interval, anchor) => {
+                let refusal = self.refusal;
                 store_interval(interval, times, from, places, self.samples - 1);
-                self.counted(anchor, refusal)
+                self.counted(anchor, refusal, self.refused_sample)
             }
             Closed::Refuses(number) => {
                 let anchor = self.anchor;
-                self.counted(anchor, MaybeRefusal::Present(number))
+                let refusal = FirstRefusal::of(number);
+                self.counted(anchor, refusal, self.samples as u64)
             }
         }
     }
@@ -305,10 +326,10 @@ impl ClockBuild {
         let samples = self.samples;
         if samples == 0 {
             let first = Anchor::first(sample);
-            return self.counted(first, refusal);
+            return self.counted(first, refusal, self.refused_sample);
         }
         if refusal.is_refused() | (depth <= samples) {
-            return self.counted(anchor, refusal);
+            return self.counted(anchor, refusal, self.refused_sample);
         }
         let closed = anchor.close(samples as u64, sample);
         self.closed(closed, times, from, places)
@@ -319,6 +340,7 @@ impl ClockBuild {
         ensures { λ r. ⌜ r ≡ answerOf depth self ⌝ }
     {
         let refusal = self.refusal;
+        let sample = self.refused_sample;
         if depth < self.samples {
             return ClockAnswer::Refused(Refusal::ClockFull {
                 depth: depth as u64,
@@ -328,8 +350,14 @@ impl ClockBuild {
             return ClockAnswer::Refused(Refusal::TooFewPcrs);
         }
         match refusal {
-            MaybeRefusal::Absent => ClockAnswer::Intervals(self.samples - 1),
-            MaybeRefusal::Present(number) => ClockAnswer::Refused(number),
+            FirstRefusal::Absent => ClockAnswer::Intervals(self.samples - 1),
+            FirstRefusal::DiscontinuityBeforeRate => {
+                ClockAnswer::Refused(Refusal::DiscontinuityBeforeRate { sample })
+            }
+            FirstRefusal::RepeatedPcr => ClockAnswer::Refused(Refusal::RepeatedPcr { sample }),
+            FirstRefusal::RateOutsideLimits => {
+                ClockAnswer::Refused(Refusal::RateOutsideLimits { sample })
+            }
         }
     }
 }

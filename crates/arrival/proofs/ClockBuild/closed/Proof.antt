@@ -1,4 +1,5 @@
 -- `ClockBuild::closed` meets its contract. Assumes nothing.
+use mathlib.Core.Path.{_∙_}
 use Rattle.arrival.proofs.Taking.{stored, remembered}
 use borrow.Author.Needs.{needs}
 use Rattle.arrival.proofs.ClockBuild.closed.Statement.{statement}
@@ -19,6 +20,9 @@ counted-requires c κs = search needs
 enum-known-closed-2 : tie.Need-enum-known-closed-2
 enum-known-closed-2 c = search needs
 
+of-requires : tie.Need-of-requires
+of-requires c κs = search needs
+
 counted-requires-2 : tie.Need-counted-requires-2
 counted-requires-2 c κs = search needs
 
@@ -32,7 +36,7 @@ returns : tie.Need-returns
 returns c = stored 0 _ _ _ _ _ _ _ _ (c .before .before .before .before .before .before .before .before .before .before .closed .given .1) (c .counted .ensures) (c .before .before .before .before .before .store-interval .ensures .0) (c .before .before .before .before .before .store-interval .ensures .1)
 
 returns-2 : tie.Need-returns-2
-returns-2 c = remembered 0 _ _ _ _ _ _ (c .before .before .before .closed2 .given .1) (c .counted2 .ensures)
+returns-2 c = remembered 0 _ _ _ _ _ _ (c .before .before .before .before .closed2 .given .1) (c .counted2 .ensures ∙ (cc))
 
 pub closed-spec : {M : Type 1} → statement M
 closed-spec =
@@ -43,6 +47,7 @@ closed-spec =
     store-interval-requires
     counted-requires
     enum-known-closed-2
+    of-requires
     counted-requires-2
     same-length
     same-length-2
