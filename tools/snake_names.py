@@ -85,7 +85,16 @@ def tables():
     return table, {n: snake(n) for n in fields if snake(n) != n}
 
 
+def of_libraries(text):
+    """What a file imports of no crate of this repository."""
+    crates = {p.name for p in ROOT.glob("crates/*")}
+    uses = [m for m in USE.finditer(text) if not (m.group(1).startswith("Rattle.") and m.group(1).split(".")[1] in crates)]
+    return {n.strip() for m in uses for n in m.group(2).split(",")}
+
+
 def turn(text, table, fields):
+    kept = of_libraries(text)
+    table = {n: v for n, v in table.items() if n not in kept}
     out, last = [], 0
     for m in PIECE.finditer(text):
         piece = m.group(0)

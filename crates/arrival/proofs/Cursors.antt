@@ -1,6 +1,6 @@
 -- The cursor over the intervals in lent work, place by place and step by step.
 use Rattle.std.proofs.Common.{◌≡◌, ℕ, zero, suc, ◌+◌, ◌-◌, ◌*◌, ◌/◌, ◌<◌, ◌≤◌, Bool, true, false, cond, ◌&&◌, ltb, leb, List, length, get_or, sym, refl, ap, ◌∙◌, true≢false, arith, ltb-false, ltb-true, le-ltb, lt-ltb, le-leb, leb-false, leb-true}
-use mathlib.Core.Bool.{and_false}
+use mathlib.Core.Bool.{and-false}
 use borrow.Author.Tests.{lt-leb}
 use lib.Ieee.{Float}
 use Rattle.arrival.specs.declared.Cursor.{Cursor}
@@ -48,7 +48,7 @@ module _ (times : List Float) (from : ℕ) (places : List ℕ) (count i : ℕ) w
 
   pub cursor_short : holds count times from places ≡ false → cursor_at times from places count i ≡ nowhere_at i
   unfolding cursor_at
-  cursor_short h = rw (h, and_false)
+  cursor_short h = rw (h, and-false)
 
   module _ (h : holds count times from places ≡ true) where
     pub cursor_inner : i + 1 < count

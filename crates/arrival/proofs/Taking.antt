@@ -1,6 +1,6 @@
 -- A sample taken, by the tests that lead to each case.
 use Rattle.std.proofs.Common.{◌≡◌, ℕ, ◌-◌, ◌^◌, ◌<◌, Bool, true, false, ◌||◌, ltb, leb, List, refl, true≢false, ltb-true, eq-eqb, ne_eqb, leb-false}
-use mathlib.Core.Bool.{and_false}
+use mathlib.Core.Bool.{and-false}
 use lib.Ieee.{Float}
 use Rattle.error.specs.declared.Refusal.{Refusal}
 use Rattle.arrival.specs.declared.RateInterval.{RateInterval}
@@ -55,7 +55,7 @@ module _ (depth from : ℕ) (b : ClockBuild) (times : List Float) (places : List
 
     pub not_held : holds depth times from places ≡ false → Builds (take_sample depth from w s) b times places
     unfolding take_sample
-    not_held h = rw (h, and_false) (record { build_is = refl; times_are = refl; places_are = refl })
+    not_held h = rw (h, and-false) (record { build_is = refl; times_are = refl; places_are = refl })
 
     module _ (r : ClockBuild) (in-64 : in_range b s ≡ true) (held : holds depth times from places ≡ true) where
       pub first_taken : b.samples ≡ 0 → r ≡ counted_with b (anchor_at s) b.refusal b.refused_sample → Builds (take_sample depth from w s) r times places

@@ -3,7 +3,7 @@ use mathlib.Core.Bool.{Bool, false, true}
 use mathlib.Core.Logic.{◌⊎◌, inl, inr}
 use mathlib.Core.Path.{◌∙◌, ◌≡◌, ap, refl, subst, sym}
 use Prim.Native.Nat.{◌*◌, ◌+◌, ◌-◌, ◌<◌, ◌^◌, ◌≤◌, suc, zero, ℕ}
-use native.Mathlib.Nat.{add-le-add, le_of_suc-le-suc, le_refl, le_trans, sub_le as nat-sub-le}
+use native.Mathlib.Nat.{add-le-add, le_of_suc-le-suc, le_refl, le_trans, sub-le as nat-sub-le}
 use native.Mathlib.Omega.{arith}
 use lib.Dec.{T, lit≤}
 use lib.Ieee.{Float, binary64, fits, lt}

@@ -1,7 +1,7 @@
 -- Laws of `nearest` over any list: what it picks, and that the nearest of a list with one number more is the nearer of two.
 use Prim.Native.Nat.{ℕ, ◌≤◌, ◌<◌}
 use mathlib.Core.Path.{◌≡◌, refl, sym, ◌∙◌}
-use mathlib.Core.Bool.{Bool, true, false, and_false}
+use mathlib.Core.Bool.{Bool, true, false, and-false}
 use mathlib.Core.List.{List, [], ◌∷◌, ◌++◌}
 use native.Mathlib.Decide.{dec_le}
 use native.Mathlib.Nat.{le_refl, le_trans, le_of_lt, lt_of_lt_of_le, lt_of_not-le}
@@ -37,7 +37,7 @@ module _ (reference : ℕ) where
   test_false : {cs : List ℕ} {r : ℕ} (x : ℕ) → Picks cs r → away r < away x → none_closer reference x cs ≡ false
   unfolding none_closer
   test_false x (here {c} n) h = rw (lt-leb (away x) (away c) h)
-  test_false x (there {c} g p) h = rw (test_false x p h, and_false)
+  test_false x (there {c} g p) h = rw (test_false x p h, and-false)
 
   first_is : (p : ℕ → Bool) {cs : List ℕ} {r : ℕ} → p r ≡ true → ((x : ℕ) → away r < away x → p x ≡ false) → Picks cs r
       → first p cs ≡ r

@@ -1,7 +1,7 @@
 -- The step between two PCRs: congruent to their difference, within half a wrap, and the difference itself where that is within half a wrap.
 use Prim.Native.Nat.{ℕ, zero, suc, ◌+◌, ◌-◌, ◌^◌, ◌≤◌, ◌<◌}
 use mathlib.Core.Path.{◌≡◌, refl, sym}
-use mathlib.Core.Bool.{Bool, true, false, cond, and_false}
+use mathlib.Core.Bool.{Bool, true, false, cond, and-false}
 use native.Mathlib.Omega.{arith}
 use borrow.Author.Tests.{ltb-true, ltb-false, lt-ltb, le-ltb}
 use lib.Dec.{ltb}
@@ -84,7 +84,7 @@ module _ (self other : Pcr) where
 
   pub delta_refused_other : pcr_modulus ≤ other.ticks_27mhz → delta_ticks self other ≡ Delta.Refused Refusal.OutsideLimits
   unfolding delta_ticks
-  delta_refused_other h = rw (le-ltb other.ticks_27mhz pcr_modulus h, and_false)
+  delta_refused_other h = rw (le-ltb other.ticks_27mhz pcr_modulus h, and-false)
 
   module _ (below : self.ticks_27mhz < pcr_modulus) (other-below : other.ticks_27mhz < pcr_modulus) where
     pub delta_accepted : delta_ticks self other ≡ Delta.Ticks (wrapped (difference self other))

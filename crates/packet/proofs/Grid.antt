@@ -1,7 +1,7 @@
 -- Sync bytes on a grid of packets, and the places of packets in a recording.
 -- Assumes nothing.
 use mathlib.Core.Path.{◌≡◌, refl, sym}
-use mathlib.Core.Bool.{Bool, true, false, and_false}
+use mathlib.Core.Bool.{Bool, true, false, and-false}
 use mathlib.Core.List.{List}
 use Prim.Native.Nat.{ℕ, zero, suc, ◌+◌, ◌*◌, ◌/◌, ◌<◌, ◌≤◌, min}
 use native.Mathlib.Nat.{suc-mul, mul-le-mul_right, div-mul-le_self, not-suc-le-zero}
@@ -33,7 +33,7 @@ sync_not l size off k (suc n) h e = go (λ h'. sync_not l size off k n h' e) (eq
     go : (k < n → in_sync l size off n ≡ false) → (t : Bool) → eqb k n ≡ t → in_sync l size off (suc n) ≡ false
     go ih true s =
         let d : (get_or l (n * size + off) 0 ≡ 0x47 → ⊥) = rw (eqb-true k n s) at e in
-        rw (ne_eqb _ _ d) (and_false (in_sync l size off n))
+        rw (ne_eqb _ _ d) (and-false (in_sync l size off n))
     go ih false s =
         let ne = eqb-false k n s in
         rw (ih (omega arith))

@@ -3,7 +3,7 @@
 use Prim.Native.Nat.{ℕ, zero, suc, ◌+◌, ◌*◌, ◌/◌, ◌<◌, min}
 use mathlib.Core.Path.{◌≡◌, refl, sym, ◌∙◌, ap}
 use mathlib.Core.List.{List, [], ◌∷◌}
-use mathlib.Core.Bool.{Bool, true, false, cond, ◌&&◌, and_false, true≢false}
+use mathlib.Core.Bool.{Bool, true, false, cond, ◌&&◌, and-false, true≢false}
 use native.Mathlib.Omega.{arith}
 use lib.ListN.{length, get_or}
 use lib.Dec.{eqb, leb}
@@ -53,7 +53,7 @@ module _ (marked : ℕ → Bool) (l : List ℕ) where
       go : (t : Bool) → in_sync l size off n ≡ t → (u : Bool) → eqb (get_or l (n * size + off) 0) 0x47 ≡ u
           → (in_sync l size off n ≡ false → in_sync copy size off n ≡ false) → in_sync copy size off (suc n) ≡ false
       go false a u b ih = rw (ih a)
-      go true a false b ih = rw (no_sync (n * size + off) b) (and_false (in_sync copy size off n))
+      go true a false b ih = rw (no_sync (n * size + off) b) (and-false (in_sync copy size off n))
       go true a true b ih = absurd (let z : ◌≡◌ {A = Bool} true false = rw (a, b) at e in true≢false z)
 
   pub failed_stays : (size off : ℕ) → on_grid l size off ≡ false → on_grid copy size off ≡ false
