@@ -20,8 +20,8 @@ use Rattle.branch.specs.MainBranch.{OpenAu, none, unit, stamp_of}
 use Rattle.branch.specs.VideoBranch.{VideoRates, Leak, longest_seen, looked, stalled, gone, Turned, on, break, arriving, pace_take, filled, paced, backlogged, step, mb_fullness, eb_room, turn, turns, budget, closed, started, ran, leak_until, transfer, Video, with_removed, remove_unit, advance_from, advance, drain_time, finish_video, pushed_leak, push_video}
 use Rattle.branch.specs.VideoStep.{VideoChain, new_video, VideoFed, fed, refused, and_then, with_pending, close_by, close_au, open_unit, add_run, deliver, packet_step, end_step, video_step}
 use Rattle.branch.proofs.VideoAdvance.{leaked}
-use Rattle.model.proofs.Cases.{either}
 use Rattle.legal.specs.Legal.{BusyFits}
+use Rattle.legal.proofs.Cases.{either}
 
 -- the leak of a turn, of a branch and of a chain
 abbrev TurnFits : Turned → Type 0

@@ -1,7 +1,6 @@
 -- One step of a chain, a packet or the end: the figures in seconds of its events are above zero, and the branch keeps what the next step asks. Assumes nothing.
 use Prim.Native.Nat.{ℕ}
 use mathlib.Core.Bool.{Bool, true, false}
-use mathlib.Core.List.{[]}
 use lib.Dec.{T}
 use lib.Ieee.{Float, binary64, fits}
 use Rattle.ieee.specs.Binary64.{◌⊘◌, 0f, 8f}
@@ -14,7 +13,6 @@ use Rattle.profile.specs.declared.model.TStdBranch.{TStdBranch}
 use Rattle.profile.specs.declared.config.TStdStream.{TStdStream}
 use Rattle.transport.specs.Arrive.{float, stamp_time, nothing, arrive}
 use Rattle.model.specs.Chain.{Branch, main, video, Chain, new_chain, Stepped, step_branch, ChainStep, packet_step, tb_events, end_step}
-use Rattle.model.proofs.Cases.{either}
 use Rattle.legal.specs.Legal.{BranchFits}
 use Rattle.legal.proofs.Busy.{new_fits, video_step_fits}
 use Rattle.legal.proofs.Events.{AllAbove, none_above, both_above, tb_above}
@@ -54,10 +52,9 @@ packet_legal m depth h r t0 t1 i c k =
     let x = branch_legal m.model.branch depth d false t0 c.branch k in
     record { events = x.events; busy = x.busy }
 
--- here the transport buffer is looked at, unless the close found no place
+-- here the transport buffer is looked at
 pub end_legal : (m : TStdStream) (depth : ℕ) (c : Chain) → T (fits binary64 c.tb.longest_busy) → BranchFits c.branch → ChainLegal (end_step m depth c)
 unfolding end_step
 end_legal m depth c f k =
     let x = branch_legal m.model.branch depth nothing true 0f c.branch k in
-    let full = (step_branch m.model.branch depth nothing true 0f c.branch).full in
-    record { events = either AllAbove full [] _ none_above (both_above (tb_events c.tb) _ (tb_above c.tb f) x.events); busy = x.busy }
+    record { events = both_above (tb_events c.tb) _ (tb_above c.tb f) x.events; busy = x.busy }

@@ -30,12 +30,12 @@ use Rattle.profile.proofs.Ownership.{owner_slot}
 use Rattle.summary.specs.Summary.{Found, found, Legal}
 use Rattle.model.specs.Chain.{ChainStep, new_chain, packet_step, tb_events, end_step}
 use Rattle.model.specs.Replay.{State, running, started, with_events, chain_at, stream_at, stepped, timed, system_step, owned_step, fact_step, system_events}
-use Rattle.model.proofs.Cases.{either}
 use Rattle.demands.specs.Refused.{stream_of}
 use Rattle.demands.specs.State.{StateHolds}
 use Rattle.demands.proofs.Ends.{behind, same_running, stepped_running, counted}
 use Rattle.demands.proofs.Found.{each_append}
 use Rattle.legal.specs.Legal.{BranchFits, StateLegal}
+use Rattle.legal.proofs.Cases.{either}
 use Rattle.legal.proofs.Events.{AllAbove, tb_above, sys_above}
 use Rattle.legal.proofs.Chain.{ChainLegal, chain_new_fits, packet_legal, end_legal}
 

@@ -12,9 +12,8 @@ use Rattle.branch.specs.VideoBranch.{VideoRates, Leak, Video, mb_fullness, ran, 
 use Rattle.branch.specs.VideoStep.{VideoChain, VideoFed, close_au, packet_step, end_step, video_step}
 use Rattle.branch.proofs.VideoAdvance.{leaked}
 use Rattle.summary.specs.Violation.{SecondsAboveZero}
-use Rattle.model.proofs.Cases.{either}
 use Rattle.legal.specs.Legal.{BusyFits}
-use Rattle.legal.proofs.Cases.{each_when}
+use Rattle.legal.proofs.Cases.{either, each_when}
 use Rattle.legal.proofs.Busy.{advance_fits, close_fits}
 use Rattle.legal.proofs.Events.{AllAbove, none_above, both_above, delay_above, mb_busy_above}
 

@@ -1,3 +1,2 @@
 -- What is proved of the replay's definition.
-pub mod Cases
 pub mod Refusals

@@ -1,6 +1,6 @@
 -- A chain of the model: the transport buffer TBn and the branch behind it; one packet's step, and the end
 -- (the loop over packets and the wrap-up of the Rust's `analyze_tstd`, for one stream).
-use Rattle.std.specs.Prelude.{ℕ, ◌+◌, Bool, true, false, cond, List, [], ◌++◌, Float}
+use Rattle.std.specs.Prelude.{ℕ, ◌+◌, Bool, true, false, List, [], ◌++◌, Float}
 use Rattle.std.specs.Float.Ieee.{to_unsigned, lt}
 use Rattle.ieee.specs.Binary64.{◌⊕◌, ◌⊘◌, 0f, 1f, 8f, 512f, 1e-6f}
 use Rattle.packet.specs.declared.TsPacket.{TsPacket}
@@ -66,11 +66,11 @@ tb_events tb =
     when (lt (512f ⊕ 1f) tb.peak) (tb_overflow tb.peak)
     ++ when (lt (1f ⊕ 1e-6f) tb.longest_busy) (tb_busy tb.longest_busy)
 
--- the end: the open unit is closed, then the transport buffer looked at, then the branch finished; where the close finds no place, no more is done
+-- the end: the open unit is closed, the transport buffer looked at, then the branch finished
 unfoldable pub end_step : TStdStream → ℕ → Chain → ChainStep
 end_step s depth c =
     let x = step_branch s.model.branch depth nothing true 0f c.branch in
-    record { full = x.full; chain = record { tb = c.tb; branch = x.branch }; events = cond x.full [] (tb_events c.tb ++ x.events) }
+    record { full = x.full; chain = record { tb = c.tb; branch = x.branch }; events = tb_events c.tb ++ x.events }
 
 -- ---- the chain's figures
 abbrev pub whole : Float → ℕ

@@ -4,7 +4,7 @@ use native.Mathlib.Nat.{le_refl, le_trans, le-add_right, mul-le-mul_left}
 use native.Mathlib.Omega.{arith}
 use mathlib.Core.Path.{◌≡◌}
 use mathlib.Core.Bool.{true, false}
-use mathlib.Core.List.{List, [], ◌∷◌, ◌++◌}
+use mathlib.Core.List.{List, ◌∷◌, ◌++◌}
 use lib.Dec.{T, lit≤, lit<}
 use lib.ListN.{length, length-append}
 use lib.Ieee.{Float, binary64, fits, le, lt}
@@ -26,7 +26,7 @@ use Rattle.events.specs.Event.{Event, tb_overflow, tb_busy}
 use Rattle.branch.specs.declared.Delivered.{Delivered}
 use Rattle.branch.specs.MainBranch.{Main, new_main}
 use Rattle.branch.specs.VideoStep.{new_video}
-use Rattle.bounds.specs.Events.{EventsIn, no_events, FewEvents, UpTo, latest_time}
+use Rattle.bounds.specs.Events.{EventsIn, FewEvents, UpTo, latest_time}
 use Rattle.bounds.specs.Runs.{longest_window}
 use Rattle.bounds.specs.Video.{new_video as bounds-new}
 use Rattle.bounds.proofs.Count.{AtMost, at_most_when, at_most_append}
@@ -38,7 +38,6 @@ use Rattle.profile.specs.declared.config.TStdStream.{TStdStream}
 use Rattle.profile.proofs.Within.{StreamWithin, BranchWithin}
 use Rattle.transport.specs.Arrive.{float, stamp_time, nothing, arrive}
 use Rattle.model.specs.Chain.{Branch, main, video, Chain, new_chain, Stepped, step_branch, packet_step, tb_events, end_step, stats_of}
-use Rattle.model.proofs.Cases.{either}
 use Rattle.model_bounds.specs.Chain.{none_open, BranchHolds, ChainHolds, removed_units, PacketHolds, BranchEnded, ChainEnded, EndHolds, StatsBounded}
 use Rattle.model_bounds.specs.Times.{PacketTime}
 use Rattle.model_bounds.proofs.Arrive.{arrive_in_lem}
@@ -163,25 +162,14 @@ few_before {a} {b} {u} {v} {xs} {ys} h f = record { few = rw length-append (both
     both : (x y u v a b : ℕ) → x ≤ a → y + 3 * u ≤ 3 * v + b → x + y + 3 * u ≤ 3 * v + (a + b)
     both x y u v a b h f = omega arith
 
--- no events where a branch may have given some
-few_without : {b u v : ℕ} {ys : List Event} (a : ℕ) → FewEvents b u ys v → FewEvents (a + b) u [] v
-few_without {b} {u} {v} {ys} a f = record { few = none (length ys) u v a b f.few }
-  where
-    none : (y u v a b : ℕ) → y + 3 * u ≤ 3 * v + b → 0 + 3 * u ≤ 3 * v + (a + b)
-    none y u v a b f = omega arith
-
 pub end_holds : (m : TStdStream) (k depth : ℕ) (c : Chain) → StreamWithin m → 188 * k ≤ 2 ^ 24 → ChainHolds m k c → EndHolds m k c (end_step m depth c)
 unfolding end_step
 end_holds m k depth c w short x =
     let s = end_step_lem k depth nothing 0f short m.model.branch c.branch w.branch x.branch in
-    let y = step_branch m.model.branch depth nothing true 0f c.branch in
-    let es = tb_events c.tb ++ y.events in
     record {
       chain = λ e. record { bytes = x.bytes; few = x.few; tb = x.tb; branch = s.branch e };
-      events = either EventsIn y.full [] es no_events (events_append (tb_events_lem x.tb (le_trans x.few short)) s.events);
-      few =
-          either (λ (l : List Event). FewEvents 4 (removed_units c.branch) l (removed_units y.branch)) y.full [] es (few_without 2 s.few)
-          (few_before (tb_events_few c.tb) s.few);
+      events = events_append (tb_events_lem x.tb (le_trans x.few short)) s.events;
+      few = few_before (tb_events_few c.tb) s.few;
     }
 
 -- ---- the figures

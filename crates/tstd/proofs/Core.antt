@@ -1,15 +1,7 @@
 -- The replay behind its checks: pass 1 makes what pass 2 asks, their answer is the definition's, and what of the work is not cleared is as it was.
 -- Assumes nothing.
-use Prim.Native.Nat.{ℕ, suc, ◌+◌, ◌-◌, ◌*◌, ◌/◌, ◌^◌, ◌≤◌, ◌<◌}
-use native.Mathlib.Omega.{arith}
-use native.Mathlib.Nat.{le-div_iff_mul-le}
-use mathlib.Core.Path.{◌≡◌, refl, sym, ap, ◌∙◌}
-use mathlib.Core.Bool.{Bool, true, false, cond}
-use mathlib.Core.List.{List, map, ◌++◌}
-use lib.ListN.{length}
-use lib.Dec.{leb}
+use Rattle.std.proofs.Common.{◌≡◌, ℕ, suc, ◌+◌, ◌-◌, ◌*◌, ◌/◌, ◌^◌, ◌<◌, ◌≤◌, Bool, true, false, cond, leb, List, ◌++◌, map, length, sym, refl, ap, ◌∙◌, mul-le-mul, le-div_iff_mul-le, arith, eq-eqb, ne_eqb, le-leb}
 use lib.Ieee.{Float, lt}
-use borrow.Author.Tests.{le-leb, eq-eqb, ne_eqb}
 use Rattle.ieee.specs.Binary64.{◌⊖◌, 0f}
 use Rattle.error.specs.declared.Refusal.{Refusal}
 use Rattle.error.specs.Code.{code_of, code_numbered}
@@ -51,10 +43,9 @@ use Rattle.tstd.specs.declared.run.Ran.{Ran as RanState}
 use Rattle.tstd.specs.Clear.{zeroed}
 use Rattle.tstd.specs.Figures.{rows_from, system_rows}
 use Rattle.tstd.specs.Rest.{from_packet, finished}
-use Rattle.tstd.specs.Run.{Pass, pass_of, clock_of, Ready, whole, RanTo, Finished, slots_in}
+use Rattle.tstd.specs.Run.{Pass, pass_of, clock_of, Ready, whole, RanTo, Finished}
 use Rattle.tstd.specs.Core.{answer_for, keeps_work, outcome_of, left_of, Replayed, Fitting, ReplayedAt, queue_full, last_slots, report_in, accepted_of}
-use Rattle.tstd.proofs.Steps.{clock_near}
-use Rattle.tstd.proofs.ChainFigures.{rows_are}
+use Rattle.tstd.proofs.Rows.{rows_are}
 use Rattle.tstd.proofs.Cleared.{zeroed_behind, zeroed_outside}
 use Rattle.tstd.proofs.Sound.{report_lines}
 
@@ -62,19 +53,19 @@ use Rattle.tstd.proofs.Sound.{report_lines}
 
 module _ (c : TStdConfig) (r : RanState) where
   -- the slots with the system chain's transport buffer
-  pub last_none : (sl : Slots) → c.system_count ≤ 0 → sl ≡ slots_in r → sl ≡ last_slots c r
+  pub last_none : (sl : Slots) → c.system_count ≤ 0 → sl ≡ slots r.firsts r.figures → sl ≡ last_slots c r
   unfolding last_slots
   last_none sl h e =
       let z : c.system_count ≡ 0 = omega arith in
       rw (eq-eqb c.system_count 0 z) e
 
-  pub last_some : (sl : Slots) → 0 < c.system_count → sl ≡ noted_all 49 (tb_events r.position.system.tb) (slots_in r) → sl ≡ last_slots c r
+  pub last_some : (sl : Slots) → 0 < c.system_count → sl ≡ noted_all 49 (tb_events r.system.tb) (slots r.firsts r.figures) → sl ≡ last_slots c r
   unfolding last_slots
   last_some sl h e = rw (ne_eqb c.system_count 0 (λ z. omega arith)) e
 
   pub accepted_made : (samples : ℕ) (sl : Slots) (x : TStdReport) (seconds : Float) (fs : Figures) → sl ≡ last_slots c r → x ≡ summary c sl
-      → seconds ≡ cond (lt r.position.times.first_time r.position.times.last_time) (r.position.times.last_time ⊖ r.position.times.first_time) 0f
-      → fs ≡ figures_of (rows_from 0 (streams_of c) r.floats r.counts ++ system_rows c r.position.system)
+      → seconds ≡ cond (lt r.times.first_time r.times.last_time) (r.times.last_time ⊖ r.times.first_time) 0f
+      → fs ≡ figures_of (rows_from 0 (streams_of c) r.tbs r.mains r.videos ++ system_rows c r.system)
       → ◌≡◌ {A = Answer} (record {
         code = code_numbered 0;
         report = record {
@@ -91,7 +82,7 @@ module _ (c : TStdConfig) (r : RanState) where
 
 -- ---- at the layout that is found
 
-module _ {c : TStdConfig} {l : List ℕ} {y : TsPacketLayout} {times : List Float} {places : List ℕ} (fit : Fitting c l y times places) where
+module _ (c : TStdConfig) (l : List ℕ) (y : TsPacketLayout) (times : List Float) (places : List ℕ) (fit : Fitting c l y times places) where
   abbrev read : Read
   read = read_of (streams_read c) l
 
@@ -109,7 +100,10 @@ module _ {c : TStdConfig} {l : List ℕ} {y : TsPacketLayout} {times : List Floa
   size_some = (layouts.known-size known).0
 
   pub from_few : from ≤ 524288
-  from_few = clock_near _ _ fit.within.queue_depth.most fit.within.stream_count
+  from_few =
+      let q : 8 * c.queue_depth ≤ 65536 = omega (arith, fit.within.queue_depth.most) in
+      let m : 8 * c.queue_depth * c.stream_count ≤ 65536 * 8 = mul-le-mul q fit.within.stream_count in
+      m
 
   facts_are : read.facts ≡ facts_from y (streams_read c) l 0 count
   facts_are = ap (λ (r : Read). r.facts) (read_found (streams_read c) l y fit.found ∙ read_parts y (streams_read c) l)
@@ -218,10 +212,10 @@ module _ {c : TStdConfig} {l : List ℕ} {y : TsPacketLayout} {times : List Floa
         unfolding needed_of
         work_kept = zeroed_outside (outside_wider (omega arith) (omega arith) to.outside) ∙ times_kept
 
-        pub queue_refused : {before : TStdReport} {a : Answer} {x : Refusal} → ran.position.full ≡ true → x ≡ queue_full c ran.position count → a ≡ refused_answer before x
+        pub queue_refused : {before : TStdReport} {a : Answer} {x : Refusal} → ran.full ≡ true → x ≡ queue_full c ran count → a ≡ refused_answer before x
             → ReplayedAt c l y times places before a times'' places'
         unfolding answer_for
-        queue_refused f p r = record { outcome = rw (runs_at, (to.refused f).refusal (n + 1), ← p) r; times_are = work_kept; places_are = places_kept }
+        queue_refused f p r = record { outcome = rw (runs_at, (to.refused f).1 (n + 1), ← p) r; times_are = work_kept; places_are = places_kept }
 
         report_is : (f : Finished pass to.ready ran times'') → report_in c ran (n + 1) ≡ report_of c (n + 1) f.state
         unfolding report_in report_of
@@ -232,11 +226,11 @@ module _ {c : TStdConfig} {l : List ℕ} {y : TsPacketLayout} {times : List Floa
         accepted_is before f =
             rw (
               report_is f,
-              rows_are c f.state ran.floats ran.counts times'' c.queue_depth _ ran.position.system f.at.chains f.at.system_tb f.at.system_branch,
+              rows_are c f.state ran.tbs ran.mains ran.videos times'' c.queue_depth _ ran.system f.at.chains f.at.system_tb f.at.system_branch,
             )
             refl
 
-        pub passes_accepted : {before : TStdReport} {a : Answer} → ran.position.full ≡ false → a ≡ accepted_of c ran (n + 1) → ReplayedAt c l y times places before a times'' places'
+        pub passes_accepted : {before : TStdReport} {a : Answer} → ran.full ≡ false → a ≡ accepted_of c ran (n + 1) → ReplayedAt c l y times places before a times'' places'
         passes_accepted {before} f r =
             let x = to.finishes f in
             record { outcome = r ∙ accepted_is before x ∙ ap (answer_for before) (sym (runs_at ∙ x.outcome (n + 1))); times_are = work_kept; places_are = places_kept }

@@ -1,17 +1,15 @@
 -- The replay by steps of pass 2: what is left behind k steps in a state, and how a step goes on, is refused, or was the last.
-use Prim.Native.Nat.{ℕ, suc, ◌+◌, ◌-◌, ◌<◌, min}
-use native.Mathlib.Omega.{arith}
-use mathlib.Core.Path.{◌≡◌, refl, ◌∙◌}
-use mathlib.Core.Bool.{Bool, true, false, cond}
-use lib.ListN.{length}
-use lib.Dec.{ltb}
-use borrow.Author.Tests.{ltb-true, ltb-false}
+use Rattle.std.proofs.Common.{◌≡◌, ℕ, suc, ◌+◌, ◌-◌, ◌<◌, ◌≤◌, min, Bool, true, false, cond, ltb, length, refl, ◌∙◌, arith, ltb-false, ltb-true}
 use Rattle.error.specs.declared.Refusal.{Refusal}
 use Rattle.profile.specs.Config.{streams_of}
 use Rattle.model.specs.Replay.{State, Ran, running, full, refused_with, started, or_full}
 use Rattle.tstd.specs.Rest.{finished}
-use Rattle.tstd.specs.Run.{Pass, stream_count, clock_of, step_of, packets_left, ends_left, whole, Going}
+use Rattle.tstd.specs.Run.{Pass, stream_count, clock_of, step_of, packets_left, ends_left, whole}
 use Rattle.tstd.proofs.Rest.{packet_next, packets_through, end_next, ends_through}
+
+pub record Going (g : Pass) (k : ℕ) (s : State) : Type 0 where
+  pub packets : (samples : ℕ) → k ≤ g.count → whole g samples ≡ packets_left g samples k s
+  pub ends : (samples : ℕ) → g.count ≤ k → whole g samples ≡ ends_left g samples (k - g.count) s
 
 pub going_starts : (g : Pass) → Going g 0 (started g.config)
 going_starts g =

@@ -1,17 +1,18 @@
 -- The laws of pass 2, and of the replay around it.
 pub mod Rest
 pub mod ClockKept
+pub mod ChainIs
 pub mod Moments
 pub mod Owning
 pub mod Skipping
 pub mod Streams
-pub mod ChainFigures
+pub mod Rows
 pub mod Cleared
 pub mod Going
 pub mod Steps
 pub mod Turns
+pub mod Scanned
 pub mod Moves
 pub mod Looping
 pub mod Sound
 pub mod Core
-pub mod Rebased

@@ -1,15 +1,6 @@
 -- A step of pass 2 by its moment: the packet's arrival and its fact, and what the definition's step is.
-use Prim.Native.Nat.{ℕ, suc, ◌+◌, ◌-◌, ◌*◌, ◌/◌, ◌^◌, ◌≤◌, ◌<◌}
-use native.Mathlib.Omega.{arith}
-use native.Mathlib.Nat.{mul-le-mul, mul-le-mul_left, div-mul-le_self}
-use mathlib.Core.Path.{◌≡◌, refl, sym, ap, ◌∙◌}
-use mathlib.Core.Bool.{Bool, true, false, cond}
-use mathlib.Core.List.{List, []}
-use lib.ListN.{length, get_or, take, drop, length-take}
-use lib.Seq.{get_or-take}
-use lib.Dec.{leb}
+use Rattle.std.proofs.Common.{◌≡◌, ℕ, suc, ◌+◌, ◌-◌, ◌*◌, ◌/◌, ◌^◌, ◌<◌, ◌≤◌, Bool, true, false, cond, leb, List, [], length, get_or, take, drop, refl, ap, ◌∙◌, mul-le-mul_left, div-mul-le_self, arith, length-take, get_or-take, le-ltb, lt-ltb, leb-false, leb-true}
 use lib.Ieee.{Float}
-use borrow.Author.Tests.{leb-true, leb-false, lt-ltb, le-ltb}
 use Rattle.packet.specs.declared.TsPacket.{TsPacket}
 use Rattle.packet.specs.declared.Parse.{Parse}
 use Rattle.packet.specs.declared.TsPacketLayout.{TsPacketLayout}
@@ -27,19 +18,14 @@ use Rattle.arrival.proofs.Covering.{AtEnd, end_interval}
 use Rattle.branch.specs.Queue.{SameOutside}
 use Rattle.profile.specs.Config.{streams_of, unused_stream}
 use Rattle.profile.specs.Owner.{owner_of, pids_of}
-use Rattle.profile.specs.declared.owner.Owner.{Owner}
-use Rattle.profile.proofs.Ownership.{owner_slot, pids_owner}
+use Rattle.profile.proofs.Ownership.{pids_owner}
 use Rattle.model.specs.Chain.{end_step}
 use Rattle.model.specs.Replay.{State, running, stream_at, chain_at, streams_read, stepped, fact_step}
-use Rattle.chain.specs.declared.Moment.{Moment}
+use Rattle.tstd.specs.declared.moment.Moment.{Moment}
 use Rattle.tstd.specs.Owners.{owner_index}
 use Rattle.tstd.specs.Moments.{packet_moment, end_moment, moment_of}
 use Rattle.tstd.specs.Run.{Pass, stream_count, depth_of, clock_from, clock_of, Ready, step_of}
 use Rattle.tstd.proofs.ClockKept.{packet_arrives}
-
--- where the clock begins in the work of a profile within the limits
-pub clock_near : (depth streams : ℕ) → depth ≤ 8192 → streams ≤ 8 → 8 * depth * streams ≤ 524288
-clock_near depth streams d n = mul-le-mul {n₁ = 8 * depth} {m₁ = streams} {n₂ = 65536} {m₂ = 8} (omega arith) n
 
 -- the bytes that the loop takes from place `at` on are packet k's
 pub window_is : (g : Pass) (k at : ℕ) → at ≡ g.layout.sync_offset + k * g.layout.packet_size
@@ -57,44 +43,27 @@ pub record PacketIs (g : Pass) (k : ℕ) (m : Moment) : Type 0 where
   pub moment : m
       ≡ record { end = false; parsed = true; owner = owner_index (owner_of g.config packet.pid); payload_start = packet.payload_start; payload_unit_start = packet.payload_unit_start }
 
--- whose step k is, with its owner's number
 pub data MomentIs (g : Pass) (k : ℕ) (m : Moment) : Type 0 where
-  at_end : g.count ≤ k → m ≡ end_moment (k - g.count) → m.owner ≡ k - g.count → MomentIs g k m
-  at_unparsed : k < g.count → Fails (parse_of (packet_at g.layout g.recording k)) → m ≡ packet_moment (pids_of g.config) PacketHeader.Unparsed → m.owner ≡ 9 → MomentIs g k m
-  at_stream : k < g.count → (p : PacketIs g k m) → owner_of g.config p.packet.pid ≡ Owner.Stream m.owner → m.owner < stream_count g → MomentIs g k m
-  at_system : k < g.count → (p : PacketIs g k m) → owner_of g.config p.packet.pid ≡ Owner.System → m.owner ≡ 8 → MomentIs g k m
-  at_nobody : k < g.count → (p : PacketIs g k m) → owner_of g.config p.packet.pid ≡ Owner.Nobody → m.owner ≡ 9 → MomentIs g k m
-
-owner_is : {m m' : Moment} → m ≡ m' → m.owner ≡ m'.owner
-owner_is e = ap (λ (z : Moment). z.owner) e
+  at_end : g.count ≤ k → m ≡ end_moment (k - g.count) → MomentIs g k m
+  at_unparsed : k < g.count → Fails (parse_of (packet_at g.layout g.recording k)) → m ≡ packet_moment (pids_of g.config) PacketHeader.Unparsed → MomentIs g k m
+  at_packet : k < g.count → PacketIs g k m → MomentIs g k m
 
 module _ (g : Pass) (k : ℕ) (m : Moment) where
-  by_owner : k < g.count → (p : PacketIs g k m) (o : Owner) → owner_of g.config p.packet.pid ≡ o → MomentIs g k m
-  by_owner h p (Owner.Stream i) e =
-      let d : m.owner ≡ i = owner_is p.moment ∙ ap owner_index e in
-      at_stream h p (e ∙ ap Owner.Stream (sym d)) (omega (arith, (owner_slot g.config p.packet.pid i e).counted))
-  by_owner h p Owner.System e = at_system h p e (owner_is p.moment ∙ ap owner_index e)
-  by_owner h p Owner.Nobody e = at_nobody h p e (owner_is p.moment ∙ ap owner_index e)
-
   by_parse : k < g.count → (p : Parse) → parse_of (packet_at g.layout g.recording k) ≡ p → m ≡ packet_moment (pids_of g.config) (header_of p) → MomentIs g k m
   unfolding header_of
-  by_parse h (Parse.Packet x) e f = by_owner h (record { packet = x; parse = e; moment = rw (← pids_owner g.config x.pid) f }) _ refl
-  by_parse h (Parse.Truncated a b) e f = at_unparsed h (is_truncated e) f (owner_is f)
-  by_parse h (Parse.BadSyncByte b) e f = at_unparsed h (is_bad_sync e) f (owner_is f)
+  by_parse h (Parse.Packet x) e f = at_packet h (record { packet = x; parse = e; moment = rw (← pids_owner g.config x.pid) f })
+  by_parse h (Parse.Truncated a b) e f = at_unparsed h (is_truncated e) f
+  by_parse h (Parse.BadSyncByte b) e f = at_unparsed h (is_bad_sync e) f
 
   by_count : (t : Bool) → leb g.count k ≡ t → m ≡ moment_of (pids_of g.config) (packet_at g.layout g.recording k) g.count k → MomentIs g k m
   unfolding moment_of
-  by_count true e f = let is = rw e at f in at_end (leb-true _ _ e) is (owner_is is)
+  by_count true e f = at_end (leb-true _ _ e) (rw e at f)
   by_count false e f = by_parse (leb-false _ _ e) _ refl (rw e at f)
 
   pub moment_is : m ≡ moment_of (pids_of g.config) (packet_at g.layout g.recording k) g.count k → MomentIs g k m
   moment_is f = by_count (leb g.count k) refl f
 
 -- ---- its times
-
--- the arrival of the packet behind x, by the clock in the work w
-abbrev pub next_in : Pass → List Float → PacketArrival → PacketArrival
-next_in g w x = next_arrival w (clock_from g) g.places (suc g.last) x
 
 -- packet k comes from its first byte to its last, by the interval of its end
 pub record Arrives (g : Pass) (ready : Ready g) (k : ℕ) (x : PacketArrival) : Type 0 where
@@ -114,9 +83,9 @@ module _ (g : Pass) (ready : Ready g) where
       rw ready.whole (omega (arith, div-mul-le_self n d, ready.long))
 
   pub arrives : (k : ℕ) (w : List Float) (x : PacketArrival) → k < g.count → SameOutside 0 (clock_from g) g.work w
-      → AtEnd g.work (clock_from g) g.places g.last ready.room k x → Arrives g ready k (next_in g w x)
+      → AtEnd g.work (clock_from g) g.places g.last ready.room k x → Arrives g ready k (next_arrival w (clock_from g) g.places (suc g.last) x)
   arrives k w x h o at =
-      let r = next_in g w x in
+      let r = next_arrival w (clock_from g) g.places (suc g.last) x in
       let few = count_few in
       let p = packet_arrives o (clock_from g) (omega arith) g.places g.last ready.room k x r (omega arith) at refl in
       let e : k + 1 ≡ suc k = omega arith in

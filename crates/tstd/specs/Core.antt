@@ -1,5 +1,5 @@
 -- The replay of a recording as the code gives it: the answer that the definition's outcome is, and what the lent work then holds.
-use Rattle.std.specs.Prelude.{ℕ, ◌^◌, ◌≤◌, min, ◌≡◌, Bool, false, cond, List, ◌++◌, length, leb, eqb, Float}
+use Rattle.std.specs.Prelude.{◌≡◌, ℕ, ◌^◌, ◌≤◌, min, Bool, false, cond, List, ◌++◌, length, ◌==◌, nat_le, Float}
 use Rattle.std.specs.Float.Ieee.{lt}
 use Rattle.ieee.specs.Binary64.{◌⊖◌, 0f}
 use Rattle.error.specs.declared.Refusal.{Refusal}
@@ -8,7 +8,7 @@ use Rattle.packet.specs.declared.TsPacketLayout.{TsPacketLayout}
 use Rattle.packet.specs.declared.Detected.{Detected}
 use Rattle.packet.specs.Layout.{layout_of}
 use Rattle.recording.specs.Read.{read_of}
-use Rattle.events.specs.Slots.{Slots, noted_all}
+use Rattle.events.specs.Slots.{Slots, slots, noted_all}
 use Rattle.report.specs.declared.TStdReport.{TStdReport}
 use Rattle.profile.specs.declared.config.TStdConfig.{TStdConfig}
 use Rattle.profile.specs.Config.{streams_of}
@@ -20,9 +20,7 @@ use Rattle.answer.specs.declared.Answer.{Answer}
 use Rattle.answer.specs.Answer.{accepted_answer, refused_answer}
 use Rattle.model.specs.Chain.{tb_events}
 use Rattle.model.specs.Replay.{Outcome, accepted, refused_with, streams_read, stream_at, with_layout, replay}
-use Rattle.tstd.specs.declared.run.Position.{Position}
 use Rattle.tstd.specs.declared.run.Ran.{Ran as RanState}
-use Rattle.tstd.specs.Run.{slots_in}
 use Rattle.tstd.specs.Clear.{zeroed}
 use Rattle.tstd.specs.Figures.{rows_from, system_rows}
 
@@ -36,7 +34,7 @@ answer_for before (refused_with x) = refused_answer before x
 -- numbers 1 to 4 leave the work unchanged
 unfoldable pub keeps_work : Outcome → Bool
 keeps_work (accepted r fs) = false
-keeps_work (refused_with x) = leb (code_of x).number 4
+keeps_work (refused_with x) = nat_le (code_of x).number 4
 
 -- the outcome of the definition for a recording l and the lengths of work and row that are lent
 abbrev pub outcome_of : List ℕ → TStdConfig → (times places row : ℕ) → Outcome
@@ -73,12 +71,12 @@ pub record ReplayedAt (c : TStdConfig) (l : List ℕ) (y : TsPacketLayout) (time
 -- ---- the answer behind pass 2
 
 -- number 10 with the packet, or behind the packets their count, and the PID of the full chain
-abbrev pub queue_full : TStdConfig → Position → ℕ → Refusal
-queue_full c p count = Refusal.QueueFull (min p.step count) (stream_at c p.owner).pid
+abbrev pub queue_full : TStdConfig → RanState → ℕ → Refusal
+queue_full c r count = Refusal.QueueFull (min r.step count) (stream_at c r.owner).pid
 
 -- the system chain's transport buffer is looked at last, where there are system PIDs
 unfoldable pub last_slots : TStdConfig → RanState → Slots
-last_slots c r = cond (eqb c.system_count 0) (slots_in r) (noted_all 49 (tb_events r.position.system.tb) (slots_in r))
+last_slots c r = cond (c.system_count == 0) (slots r.firsts r.figures) (noted_all 49 (tb_events r.system.tb) (slots r.firsts r.figures))
 
 unfoldable pub report_in : TStdConfig → RanState → ℕ → TStdReport
 report_in c r samples =
@@ -88,9 +86,9 @@ report_in c r samples =
       violation_count = x.violation_count;
       violation_events = x.violation_events;
       pcr_samples = samples;
-      modelled_seconds = cond (lt r.position.times.first_time r.position.times.last_time) (r.position.times.last_time ⊖ r.position.times.first_time) 0f;
+      modelled_seconds = cond (lt r.times.first_time r.times.last_time) (r.times.last_time ⊖ r.times.first_time) 0f;
     }
 
 unfoldable pub accepted_of : TStdConfig → RanState → ℕ → Answer
 accepted_of c r samples =
-    accepted_answer (report_in c r samples) (rows_from 0 (streams_of c) r.floats r.counts ++ system_rows c r.position.system)
+    accepted_answer (report_in c r samples) (rows_from 0 (streams_of c) r.tbs r.mains r.videos ++ system_rows c r.system)

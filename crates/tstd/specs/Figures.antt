@@ -1,8 +1,10 @@
 -- The chains' figures as pass 2 holds them: a row per stream, by the kind of its branch, and one for the system chain.
-use Rattle.std.specs.Prelude.{ℕ, suc, cond, List, [], ◌∷◌, eqb, Float}
+use Rattle.std.specs.Prelude.{ℕ, suc, cond, List, [], ◌∷◌, ◌==◌, slice_index_or}
 use Rattle.ieee.specs.Binary64.{0f}
 use Rattle.branch.specs.declared.main_branch.MainBranch.{MainBranch}
 use Rattle.branch.specs.declared.video_branch.VideoBranch.{VideoBranch}
+use Rattle.branch.specs.MainInWork as main-work
+use Rattle.branch.specs.VideoInWork as video-work
 use Rattle.profile.specs.declared.model.TStdBranch.{TStdBranch}
 use Rattle.profile.specs.declared.config.TStdConfig.{TStdConfig}
 use Rattle.profile.specs.declared.config.TStdStream.{TStdStream}
@@ -11,7 +13,7 @@ use Rattle.summary.specs.Violation.{system_pid}
 use Rattle.fifo.specs.declared.FluidFifo.{FluidFifo}
 use Rattle.model.specs.Chain.{whole}
 use Rattle.tstd.specs.declared.front.SystemChain.{SystemChain}
-use Rattle.rows.specs.Rows.{tb_in, main_in, video_in}
+use Rattle.tstd.specs.InWork.{unused_tb}
 
 unfoldable pub row_by : TStdBranch → ℕ → FluidFifo → MainBranch → VideoBranch → TStdChainStats
 row_by (TStdBranch.Main size) p t b v =
@@ -37,9 +39,10 @@ abbrev pub stream_row : TStdStream → FluidFifo → MainBranch → VideoBranch 
 stream_row s t b v = row_by s.model.branch s.pid t b v
 
 -- the rows of the streams from stream i on
-unfoldable pub rows_from : ℕ → List TStdStream → List Float → List ℕ → List TStdChainStats
-rows_from i [] l n = []
-rows_from i (s ∷ ss) l n = stream_row s (tb_in l i) (main_in l n i) (video_in l n i) ∷ rows_from (suc i) ss l n
+unfoldable pub rows_from : ℕ → List TStdStream → List FluidFifo → List MainBranch → List VideoBranch → List TStdChainStats
+rows_from i [] ts bs vs = []
+rows_from i (s ∷ ss) ts bs vs =
+    stream_row s (slice_index_or ts i unused_tb) (slice_index_or bs i main-work.newBranch) (slice_index_or vs i video-work.newBranch) ∷ rows_from (suc i) ss ts bs vs
 
 unfoldable pub system_row : TStdConfig → SystemChain → TStdChainStats
 system_row c s =
@@ -54,4 +57,4 @@ system_row c s =
 
 -- where there are system PIDs
 unfoldable pub system_rows : TStdConfig → SystemChain → List TStdChainStats
-system_rows c s = cond (eqb c.system_count 0) [] (system_row c s ∷ [])
+system_rows c s = cond (c.system_count == 0) [] (system_row c s ∷ [])

@@ -1,5 +1,5 @@
 // The figures of the chains when the streams are at their ends: a record per stream, and one for the system chain.
-ghost use Rattle.std.specs.Prelude.{◌≡◌, ◌++◌, ◌≤◌, ◌<◌};
+ghost use Rattle.std.specs.Prelude.{◌≡◌, ◌<◌, ◌≤◌, ◌++◌};
 ghost use Rattle.answer.specs.Answer.{figures_of};
 ghost use Rattle.profile.specs.Config.{streams_of};
 ghost use Rattle.tstd.specs.Figures.{stream_row, system_row, rows_from, system_rows};
@@ -12,7 +12,6 @@ use fifo::FluidFifo;
 use profile::config::{TStdConfig, TStdStream};
 use profile::model::TStdBranch;
 use report::TStdChainStats;
-use rows::{COUNTS, FLOATS, main_row, tb_row, video_row};
 
 // The peaks are whole bytes, toward zero; a branch without an elementary stream buffer has none there.
 fn stream_row(stream: TStdStream, tb: FluidFifo, b: MainBranch, v: VideoBranch) -> TStdChainStats
@@ -64,37 +63,32 @@ fn system_row(config: TStdConfig, system: SystemChain) -> TStdChainStats
 
 pub(crate) fn figures(
     config: TStdConfig,
-    floats: &[f64; FLOATS],
-    counts: &[u64; COUNTS],
+    tbs: [FluidFifo; 8],
+    mains: [MainBranch; 8],
+    videos: [VideoBranch; 8],
     system: SystemChain,
 ) -> Figures
     requires { config.stream_count ≤ 8 }
-    ensures { result ≡ figures_of (rows_from 0 (streams_of config) floats.now counts.now ++ system_rows config system) }
+    ensures { result ≡ figures_of (rows_from 0 (streams_of config) tbs mains videos ++ system_rows config system) }
 {
     let streams = config.streams;
     let n = config.stream_count;
     let unused = TStdChainStats::new(0);
-    let mut stats = [unused; 9];
+    let mut rows = [unused; 9];
     let mut i = 0;
     while i < n {
         let s = streams[i];
-        let f = tb_row::tb_of(floats, i);
-        let b = main_row::main_of(floats, counts, i);
-        let v = video_row::video_of(floats, counts, i);
+        let f = tbs[i];
+        let b = mains[i];
+        let v = videos[i];
         let row = stream_row(s, f, b, v);
-        stats[i] = row;
+        rows[i] = row;
         i += 1;
     }
     if config.system_count == 0 {
-        return Figures {
-            rows: stats,
-            count: n,
-        };
+        return Figures { rows, count: n };
     }
     let row = system_row(config, system);
-    stats[n] = row;
-    Figures {
-        rows: stats,
-        count: n + 1,
-    }
+    rows[n] = row;
+    Figures { rows, count: n + 1 }
 }

@@ -8,22 +8,21 @@ mod run;
 mod skip;
 mod stream;
 
-ghost use Rattle.std.specs.Prelude.{◌≡◌, cond, ◌≤◌, ◌<◌};
+ghost use Rattle.std.specs.Prelude.{◌≡◌, ◌<◌, ◌≤◌, if◌then◌else◌};
 ghost use Rattle.std.specs.Float.Ieee.{lt};
 ghost use Rattle.ieee.specs.Binary64.{◌⊖◌, 0f};
 ghost use Rattle.tstd.specs.Core.{accepted_of, queue_full, Fitting, ReplayedAt, Replayed};
 
 use answer::Answer;
 use arrival::ClockAnswer;
-use chain::tb_rules;
 use error::{Code, Refusal};
 use packet::{Detected, TsPacketLayout};
 use profile::{Checked, Limits, TStdConfig, WorkSize};
 use report::TStdReport;
-use run::{Position, Ran};
+use run::Ran;
 
 fn modelled_seconds(first_time: f64, last_time: f64) -> f64
-    ensures { result ≡ cond (lt first_time last_time) (last_time ⊖ first_time) 0f }
+    ensures { result ≡ (if lt first_time last_time then (last_time ⊖ first_time) else 0f) }
 {
     if first_time < last_time {
         last_time - first_time
@@ -39,19 +38,19 @@ fn accepted(config: TStdConfig, ran: Ran, samples: usize) -> Answer
 {
     let mut firsts = ran.firsts;
     let mut slots = ran.figures;
-    let position = ran.position;
-    let system = position.system;
+    let system = ran.system;
     let tb = system.tb;
     if 0 < config.system_count {
-        tb_rules::note_tb(tb, &mut firsts, &mut slots, 49);
+        front::note_tb(tb, &mut firsts, &mut slots, 49);
     }
     let mut report = summary::report_of(config, firsts, slots);
-    let times = position.times;
+    let times = ran.times;
     report.pcr_samples = samples as u64;
     report.modelled_seconds = modelled_seconds(times.first_time, times.last_time);
-    let floats = ran.floats;
-    let counts = ran.counts;
-    let rows = figures::figures(config, &floats, &counts, system);
+    let tbs = ran.tbs;
+    let mains = ran.mains;
+    let videos = ran.videos;
+    let rows = figures::figures(config, tbs, mains, videos, system);
     Answer {
         code: Code {
             number: 0,
@@ -64,14 +63,14 @@ fn accepted(config: TStdConfig, ran: Ran, samples: usize) -> Answer
 }
 
 // Number 10 counts the packets from 0; at the end of a stream it has the packet count.
-fn queue_full(config: TStdConfig, position: Position, count: usize) -> Refusal
-    requires { position.owner < 8 }
-    ensures { result ≡ queue_full config position count }
+fn queue_full(config: TStdConfig, ran: Ran, count: usize) -> Refusal
+    requires { ran.owner < 8 }
+    ensures { result ≡ queue_full config ran count }
 {
-    let i = position.owner;
+    let i = ran.owner;
     let stream = config.streams[i];
     Refusal::QueueFull {
-        packet: clear::least(position.step, count) as u64,
+        packet: clear::least(ran.step, count) as u64,
         pid: stream.pid,
     }
 }
@@ -104,9 +103,8 @@ fn replay_at(
         ClockAnswer::Refused(x) => Answer::refused(report, x),
         ClockAnswer::Intervals(n) => {
             let ran = run::run(config, bytes, layout, count, times, places, n);
-            let position = ran.position;
-            if position.full {
-                return Answer::refused(report, queue_full(config, position, count));
+            if ran.full {
+                return Answer::refused(report, queue_full(config, ran, count));
             }
             accepted(config, ran, n + 1)
         }

@@ -1,133 +1,34 @@
 // Pass 2: every packet goes through its chain; behind the packets comes the end of each stream.
-ghost use Rattle.std.specs.Prelude.{◌≤◌, ◌<◌};
-ghost use Rattle.events.specs.Slots.{slots};
-ghost use Rattle.rows.specs.Rows.{rows_of};
-ghost use Rattle.tstd.specs.Run.{Ready, pass_of, Starts, Resumes, Stretched, RanTo};
+ghost use Rattle.std.specs.Prelude.{◌<◌};
+ghost use Rattle.tstd.specs.Run.{Ready, pass_of, RanTo};
 
-use crate::clear::least;
 use crate::front::SystemChain;
 use crate::moment::Times;
 use crate::{front, moment, owners, skip, stream};
+use branch::main_branch::MainBranch;
+use branch::video_branch::VideoBranch;
+use fifo::FluidFifo;
 use packet::TsPacketLayout;
 use profile::config::TStdConfig;
-use rows::{BYTES, COUNTS, FLOATS};
+use scanner::PesScanner;
 
-// Where pass 2 stands behind `step` steps, which count the packets and then the ends. The next packet lies at `at`. Full: a push of that
-// step, of the stream `owner`, met a full queue.
+// The state behind the last step. Full: a push of the step met a full queue; step counts the packets and then the ends.
 #[derive(Drop)]
-pub struct Position {
+pub struct Ran {
     pub full: bool,
     pub step: usize,
     pub owner: usize,
-    pub at: usize,
+    pub tbs: [FluidFifo; 8],
+    pub mains: [MainBranch; 8],
+    pub videos: [VideoBranch; 8],
     pub system: SystemChain,
     pub times: Times,
-}
-
-// Where pass 2 ended, with the rows of the chains and the slots of the report as they are then.
-#[derive(Drop)]
-pub struct Ran {
-    pub position: Position,
-    pub floats: [f64; FLOATS],
-    pub counts: [u64; COUNTS],
-    pub kept: [u8; BYTES],
     pub firsts: [u64; 64],
     pub figures: [f64; 128],
 }
 
-// Before the first packet.
-fn start(
-    config: TStdConfig,
-    layout: TsPacketLayout,
-    work: &[f64],
-    places: &[u64],
-    intervals: usize,
-) -> Position
-    requires { (config.stream_count ≤ 8) × (config.queue_depth ≤ 8192) }
-    ensures { Starts config layout work.now places.now intervals result }
-{
-    let clock_from = 8 * config.queue_depth * config.stream_count;
-    let system = front::new_system();
-    let times = moment::start(work, clock_from, places, intervals);
-    Position {
-        full: false,
-        step: 0,
-        owner: 9,
-        at: layout.sync_offset,
-        system,
-        times,
-    }
-}
-
-// The steps up to `end`, or up to the first at which a queue is full. The rows, the work and the slots are lent on to each step.
-fn stretch(
-    from: Position,
-    config: TStdConfig,
-    bytes: &[u8],
-    layout: TsPacketLayout,
-    count: usize,
-    end: usize,
-    floats: &mut [f64; FLOATS],
-    counts: &mut [u64; COUNTS],
-    kept: &mut [u8; BYTES],
-    work: &mut [f64],
-    places: &[u64],
-    intervals: usize,
-    firsts: &mut [u64; 64],
-    figures: &mut [f64; 128],
-) -> Position
-    requires { (0 < intervals) × Resumes (pass_of config bytes.now layout count work.old places.now intervals) from (rows_of floats.old counts.old kept.old) (slots firsts.old figures.old) end }
-    ensures { Stretched (pass_of config bytes.now layout count work.old places.now intervals) end result (rows_of floats.new counts.new kept.new) work.new (slots firsts.new figures.new) }
-{
-    let owners = owners::owner_table(config.pids());
-    let models = stream::models(config);
-    let packets = least(count, end);
-    let mut system = from.system;
-    let mut times = from.times;
-    let mut at = from.at;
-    let mut full = false;
-    let mut owner = 9;
-    let mut k = from.step;
-    while k < end {
-        let window = packet::window_at(bytes, at);
-        let m = moment::moment_at(&owners, window, count, k);
-        // Worked out here and not before the loop: the loop's invariant can name the profile only where the loop reads it.
-        let clock_from = 8 * config.queue_depth * config.stream_count;
-        times = moment::next(times, m, work, clock_from, places, intervals);
-        let a = times.arrival;
-        let i = m.owner;
-        if i < 8 {
-            let model = models[i];
-            full = chain::step(
-                model, i, window, m, a, floats, counts, kept, work, firsts, figures,
-            );
-            if full {
-                owner = i;
-                break;
-            }
-        } else if i == 8 {
-            system = front::push_system(system, a, firsts, figures);
-        } else {
-            let s = skip::skip(times, &owners, bytes, layout.packet_size, at, packets, k);
-            let t = s.times;
-            times = t;
-            at = s.at;
-            k = s.k;
-        }
-        at += layout.packet_size;
-        k += 1;
-    }
-    Position {
-        full,
-        step: k,
-        owner,
-        at,
-        system,
-        times,
-    }
-}
-
-// All steps.
+// One function, since the arrays of chains must stay in the one that has the loop: handed to a step they would be copied whole for each packet.
+// For the same reason a scanner is read whole only where it is fed, and a model where its kind is known.
 pub(crate) fn run(
     config: TStdConfig,
     bytes: &[u8],
@@ -140,34 +41,107 @@ pub(crate) fn run(
     requires { (0 < intervals) × Ready (pass_of config bytes.now layout count work.old places.now intervals) }
     ensures { RanTo (pass_of config bytes.now layout count work.old places.now intervals) result work.new }
 {
-    let mut floats = [0.0f64; FLOATS];
-    let mut counts = [0u64; COUNTS];
-    stream::fill(config, &mut floats, &mut counts);
-    let mut kept = [0u8; BYTES];
+    let from = 8 * config.queue_depth * config.stream_count;
+    let pids = config.pids();
+    let owners = owners::owner_table(pids);
+    let models = stream::models(config);
+    let mut tbs = stream::tbs(config);
+    let s0 = PesScanner::new();
+    let mut scanners = [s0; 8];
+    let m0 = MainBranch::new();
+    let v0 = VideoBranch::new();
+    let mut mains = [m0; 8];
+    let mut videos = [v0; 8];
+    let mut system = front::new_system();
     let mut firsts = [0u64; 64];
     let mut figures = [0.0f64; 128];
-    let from = start(config, layout, work, places, intervals);
-    let position = stretch(
-        from,
-        config,
-        bytes,
-        layout,
-        count,
-        count + config.stream_count,
-        &mut floats,
-        &mut counts,
-        &mut kept,
-        work,
-        places,
-        intervals,
-        &mut firsts,
-        &mut figures,
-    );
+    let mut times = moment::start(work, from, places, intervals);
+    let mut at = layout.sync_offset;
+    let mut full = false;
+    let mut owner = 9;
+    let mut k = 0;
+    while k < count + config.stream_count {
+        let window = packet::window_at(bytes, at);
+        let m = moment::moment_at(&owners, window, count, k);
+        times = moment::next(times, m, work, from, places, intervals);
+        let a = times.arrival;
+        let i = m.owner;
+        if i < 8 {
+            let known = scanners[i];
+            let mut runs = front::unfed(known, window, m);
+            if front::scans(known, m) {
+                let before = scanners[i];
+                let fed = front::feed(before, window, m);
+                let behind = fed.scanner;
+                scanners[i] = behind;
+                runs = fed.runs;
+            }
+            let tb = tbs[i];
+            let d = front::front(tb, runs, m, a, &mut firsts, &mut figures, 1 + 6 * i);
+            let g = d.tb;
+            tbs[i] = g;
+            let delivered = d.delivered;
+            let kind = models[i];
+            if kind.is_video {
+                let b = videos[i];
+                let model = models[i];
+                let p = model.video;
+                let s = b.step(
+                    p,
+                    work,
+                    delivered,
+                    m.end,
+                    a.t0,
+                    &mut firsts,
+                    &mut figures,
+                    1 + 6 * i,
+                );
+                let v = s.branch;
+                videos[i] = v;
+                full = s.full;
+            } else {
+                let b = mains[i];
+                let model = models[i];
+                let p = model.main;
+                let s = b.step(
+                    p,
+                    work,
+                    delivered,
+                    m.end,
+                    a.t0,
+                    &mut firsts,
+                    &mut figures,
+                    1 + 6 * i,
+                );
+                let v = s.branch;
+                mains[i] = v;
+                full = s.full;
+            }
+            if full {
+                owner = i;
+                break;
+            }
+        } else if i == 8 {
+            system = front::push_system(system, a, &mut firsts, &mut figures);
+        } else {
+            let s = skip::skip(times, &owners, bytes, layout.packet_size, at, count, k);
+            let t = s.times;
+            times = t;
+            at = s.at;
+            k = s.k;
+        }
+        at += layout.packet_size;
+        k += 1;
+    }
     Ran {
-        position,
-        floats,
-        counts,
-        kept,
+        full,
+        step: k,
+        owner,
+        tbs,
+        mains,
+        videos,
+        system,
+        times,
         firsts,
         figures,
     }

@@ -1,13 +1,62 @@
-// What does not change of the streams, and their chains before any packet.
-ghost use Rattle.std.specs.Prelude.{◌≤◌, ◌≡◌, length};
-ghost use Rattle.tstd.specs.InWork.{ModelsOf, RowsOf};
+// What does not change of a stream: its PID, the kind of its branch, and where its part of the work begins.
+ghost use Rattle.std.specs.Prelude.{◌≡◌, ◌≤◌};
+ghost use Rattle.tstd.specs.InWork.{stream_model, ModelsOf, TbsOf};
 
-use branch::main_branch::MainBranch;
-use branch::video_branch::VideoBranch;
-use chain::stream::{StreamModel, stream_model};
+use branch::main_branch::MainModel;
+use branch::video_branch::VideoModel;
 use fifo::FluidFifo;
-use profile::config::TStdConfig;
-use rows::{COUNTS, FLOATS, main_row, tb_row, video_row};
+use profile::config::{TStdConfig, TStdStream};
+use profile::model::TStdBranch;
+
+// The model of the other kind is not used.
+#[derive(Drop)]
+pub struct StreamModel {
+    pub is_video: bool,
+    pub pid: u16,
+    pub main: MainModel,
+    pub video: VideoModel,
+}
+
+pub(crate) fn stream_model(stream: TStdStream, base: usize, depth: usize) -> StreamModel
+    ensures { result ≡ stream_model stream base depth }
+{
+    let mut main = MainModel {
+        buffer_size: 0.0,
+        base,
+        depth,
+    };
+    let mut video = VideoModel {
+        rbx: 0.0,
+        mb_size: 0.0,
+        eb_size: 0.0,
+        base,
+        depth,
+    };
+    let mut is_video = false;
+    let model = stream.model;
+    let branch = model.branch;
+    match branch {
+        TStdBranch::Main { buffer_size } => {
+            main.buffer_size = std::num::nearest_u64_to_f64(buffer_size as u64);
+        }
+        TStdBranch::Video {
+            rbx_bps,
+            mb_size,
+            eb_size,
+        } => {
+            is_video = true;
+            video.rbx = std::num::nearest_u64_to_f64(rbx_bps) / 8.0;
+            video.mb_size = std::num::nearest_u64_to_f64(mb_size as u64);
+            video.eb_size = std::num::nearest_u64_to_f64(eb_size as u64);
+        }
+    }
+    StreamModel {
+        is_video,
+        pid: stream.pid,
+        main,
+        video,
+    }
+}
 
 // The part of the work of stream i begins at 8 * queue_depth * i.
 pub(crate) fn models(config: TStdConfig) -> [StreamModel; 8]
@@ -29,19 +78,20 @@ pub(crate) fn models(config: TStdConfig) -> [StreamModel; 8]
     models
 }
 
-// The transport buffers and branches before any packet.
-pub(crate) fn fill(config: TStdConfig, floats: &mut [f64; FLOATS], counts: &mut [u64; COUNTS])
-    requires { (length floats.old ≡ 256) × (length counts.old ≡ 128) }
-    ensures { RowsOf config.streams 8 floats.new counts.new }
+// The transport buffers before any packet.
+pub(crate) fn tbs(config: TStdConfig) -> [FluidFifo; 8]
+    ensures { TbsOf config.streams 8 result }
 {
     let streams = config.streams;
+    let t0 = FluidFifo::new(0);
+    let mut tbs = [t0; 8];
     let mut i = 0;
     while i < 8 {
         let s = streams[i];
         let model = s.model;
-        tb_row::set_tb(floats, i, FluidFifo::new(model.rx_bps));
-        main_row::set_main(floats, counts, i, MainBranch::new());
-        video_row::set_video(floats, counts, i, VideoBranch::new());
+        let t = FluidFifo::new(model.rx_bps);
+        tbs[i] = t;
         i += 1;
     }
+    tbs
 }

@@ -1,15 +1,8 @@
 -- The rows of the chains' figures: set one after the other, and the chains of the definition whose figures they are.
 -- Assumes nothing.
-use Prim.Native.Nat.{ℕ, suc, ◌+◌, ◌-◌, ◌*◌, ◌≤◌, ◌<◌}
-use mathlib.Core.Path.{◌≡◌, refl, sym, ap, ◌∙◌}
-use mathlib.Core.Bool.{true, false}
-use mathlib.Core.List.{List, [], ◌∷◌, ◌++◌, append-nil}
-use borrow.Author.Tests.{eq-eqb, ne_eqb}
-use native.Mathlib.Nat.{min-le_left, add-zero, zero-add}
-use native.Mathlib.Numerals.{add-one}
-use native.Mathlib.Omega.{arith}
-use lib.ListN.{length, get_or, set, take, replicate, length-append, length-take}
-use lib.Seq.{take-suc, length-take-le, get_or-take, set-append_seam, append_snoc}
+use Rattle.std.proofs.Common.{◌≡◌, ℕ, zero, suc, ◌+◌, ◌-◌, ◌*◌, ◌<◌, ◌≤◌, true, false, List, [], ◌∷◌, ◌++◌, length, get_or, take, set, replicate, sym, refl, ap, ◌∙◌, append-nil, add-zero, zero-add, add-one, arith, length-append, length-take, length-take-le, get_or-take, take-suc, eq-eqb, ne_eqb}
+use native.Mathlib.Nat.{min-le_left}
+use lib.Seq.{set-append_seam, append_snoc}
 use lib.Ieee.{Float}
 use Rattle.report.specs.declared.TStdChainStats.{TStdChainStats}
 use Rattle.report.specs.Report.{empty_stats}
@@ -17,8 +10,8 @@ use Rattle.answer.specs.declared.Figures.{Figures}
 use Rattle.answer.specs.Answer.{figures_of}
 use Rattle.branch.specs.declared.main_branch.MainBranch.{MainBranch}
 use Rattle.branch.specs.declared.video_branch.VideoBranch.{VideoBranch}
-use Rattle.rows.specs.Rows.{tb_in, main_in, video_in, read_tb, read_main, read_video}
-use Rattle.rows.proofs.Parts.{tb_read, main_read, video_read}
+use Rattle.branch.specs.MainInWork as main-work
+use Rattle.branch.specs.VideoInWork as video-work
 use Rattle.profile.specs.declared.model.TStdBranch.{TStdBranch}
 use Rattle.profile.specs.declared.config.TStdConfig.{TStdConfig}
 use Rattle.profile.specs.declared.config.TStdStream.{TStdStream}
@@ -27,9 +20,9 @@ use Rattle.fifo.specs.declared.FluidFifo.{FluidFifo}
 use Rattle.model.specs.Chain.{Chain, new_chain, stats_of, whole}
 use Rattle.model.specs.Replay.{State, stream_stats, system_stats}
 use Rattle.tstd.specs.declared.front.SystemChain.{SystemChain}
-use Rattle.chain.specs.InWork.{model_by, ChainIs}
+use Rattle.tstd.specs.InWork.{model_by, unused_tb, ChainIs}
 use Rattle.tstd.specs.Figures.{row_by, stream_row, rows_from, system_row, system_rows}
-use Rattle.chain.proofs.ChainIs.{stats_main, stats_video}
+use Rattle.tstd.proofs.ChainIs.{stats_main, stats_video}
 
 -- ---- the array of rows
 
@@ -55,23 +48,29 @@ holds_figures fs rows n e a = rw (e, a.is)
 
 -- ---- the streams' rows
 
-module _ (fl : List Float) (cn : List ℕ) where
+pub get_d_any : {A : Type 0} (l : List A) (i : ℕ) (d d' : A) → i < length l → get_or l i d ≡ get_or l i d'
+get_d_any [] i d d' h = absurd (omega arith)
+get_d_any (x ∷ l) zero d d' h = refl
+get_d_any (x ∷ l) (suc i) d d' h = get_d_any l i d d' (omega arith)
+
+module _ (ts : List FluidFifo) (bs : List MainBranch) (vs : List VideoBranch) where
   -- the row of stream i
   abbrev pub row_at : TStdStream → ℕ → TStdChainStats
-  row_at s i = stream_row s (tb_in fl i) (main_in fl cn i) (video_in fl cn i)
+  row_at s i = stream_row s (get_or ts i unused_tb) (get_or bs i main-work.newBranch) (get_or vs i video-work.newBranch)
 
-  -- as the code reads it
-  pub row_read : (s : TStdStream) (i : ℕ) {t : FluidFifo} {b : MainBranch} {v : VideoBranch} {x : TStdChainStats} → i < 8 → t ≡ read_tb fl i → b ≡ read_main fl cn i → v ≡ read_video fl cn i
-      → x ≡ stream_row s t b v → x ≡ row_at s i
-  row_read s i near et eb ev e = e ∙ rw (et ∙ tb_read i near fl, eb ∙ main_read i near fl cn, ev ∙ video_read i near fl cn) refl
+  -- as the code reads it, with what an array gives behind its end
+  pub row_read : (s : TStdStream) (i : ℕ) (t : FluidFifo) (b : MainBranch) (v : VideoBranch) (x : TStdChainStats) → i < length ts → i < length bs → i < length vs
+      → x ≡ stream_row s (get_or ts i t) (get_or bs i b) (get_or vs i v) → x ≡ row_at s i
+  row_read s i t b v x ht hb hv e =
+      e ∙ rw (get_d_any ts i t unused_tb ht, get_d_any bs i b main-work.newBranch hb, get_d_any vs i v video-work.newBranch hv)
 
-  pub rows_length : (i : ℕ) (ss : List TStdStream) → length (rows_from i ss fl cn) ≡ length ss
+  pub rows_length : (i : ℕ) (ss : List TStdStream) → length (rows_from i ss ts bs vs) ≡ length ss
   unfolding rows_from
   rows_length i [] = refl
   rows_length i (s ∷ ss) = ap suc (rows_length (suc i) ss)
 
   -- one stream more
-  rows_append : (i : ℕ) (ss : List TStdStream) (s : TStdStream) → rows_from i (ss ++ s ∷ []) fl cn ≡ rows_from i ss fl cn ++ row_at s (i + length ss) ∷ []
+  rows_append : (i : ℕ) (ss : List TStdStream) (s : TStdStream) → rows_from i (ss ++ s ∷ []) ts bs vs ≡ rows_from i ss ts bs vs ++ row_at s (i + length ss) ∷ []
   unfolding rows_from
   rows_append i [] s = rw (add-zero i)
   rows_append i (x ∷ ss) s =
@@ -82,7 +81,7 @@ module _ (fl : List Float) (cn : List ℕ) where
   pub record Filled (streams : List TStdStream) (n i : ℕ) (rows : List TStdChainStats) : Type 0 where
     pub within : i ≤ n
     pub size : length streams ≡ 8
-    pub holds : Holds (rows_from 0 (take i streams) fl cn) rows
+    pub holds : Holds (rows_from 0 (take i streams) ts bs vs) rows
 
   module _ (streams : List TStdStream) (n : ℕ) (few : n ≤ 8) where
     pub filled_none : (x : TStdChainStats) → length streams ≡ 8 → x ≡ empty_stats 0 → Filled streams n 0 (replicate 9 x)
@@ -93,20 +92,20 @@ module _ (fl : List Float) (cn : List ℕ) where
     filled_next i rows x h e f =
         let l : length (take i streams) ≡ i = length-take-le i streams (omega (arith, f.size)) in
         let z : 0 + length (take i streams) ≡ i = omega arith in
-        let r : rows_from 0 (take (suc i) streams) fl cn ≡ rows_from 0 (take i streams) fl cn ++ x ∷ [] =
+        let r : rows_from 0 (take (suc i) streams) ts bs vs ≡ rows_from 0 (take i streams) ts bs vs ++ x ∷ [] =
         rw (take-suc streams i unused_stream (omega (arith, f.size)), rows_append 0 (take i streams) (get_or streams i unused_stream), e, z) in
         record {
           within = omega arith;
           size = f.size;
-          holds = rw (add-one i, r) (holds_next (rows_from 0 (take i streams) fl cn) rows i x (sym (rows_length 0 (take i streams) ∙ l)) (omega arith) f.holds);
+          holds = rw (add-one i, r) (holds_next (rows_from 0 (take i streams) ts bs vs) rows i x (sym (rows_length 0 (take i streams) ∙ l)) (omega arith) f.holds);
         }
 
-    pub filled_all : (i : ℕ) (rows : List TStdChainStats) → n ≤ i → Filled streams n i rows → Holds (rows_from 0 (take n streams) fl cn) rows
+    pub filled_all : (i : ℕ) (rows : List TStdChainStats) → n ≤ i → Filled streams n i rows → Holds (rows_from 0 (take n streams) ts bs vs) rows
     filled_all i rows h f =
         let e : i ≡ n = omega (arith, f.within) in
         rw e at f.holds
 
-    pub rows_count : length streams ≡ 8 → n ≡ length (rows_from 0 (take n streams) fl cn)
+    pub rows_count : length streams ≡ 8 → n ≡ length (rows_from 0 (take n streams) ts bs vs)
     rows_count e = sym (rows_length 0 (take n streams) ∙ length-take-le n streams (omega arith))
 
 -- ---- the system chain's row
@@ -154,26 +153,26 @@ pub row_is : {w : List Float} {s : TStdStream} {base depth k : ℕ} {t : FluidFi
     → ChainIs w s base depth k t b v x → stream_row s t b v ≡ stats_of s x
 row_is {s} {base} {depth} {t} {b} {v} {x} c = row_by_lem s.model.branch s.pid base depth t b v (stats_of s x) (stats_main c) (stats_video c)
 
-module _ (c : TStdConfig) (s : State) (fl : List Float) (cn : List ℕ) where
+module _ (c : TStdConfig) (s : State) (ts : List FluidFifo) (bs : List MainBranch) (vs : List VideoBranch) where
   rows_from_lem : (i : ℕ) (ss : List TStdStream)
-      → ((j : ℕ) → j < length ss → row_at fl cn (get_or ss j unused_stream) (i + j) ≡ stats_of (get_or ss j unused_stream) (get_or s.chains (i + j) (new_chain unused_stream)))
-      → rows_from i ss fl cn ≡ stream_stats i ss c s
+      → ((j : ℕ) → j < length ss → row_at ts bs vs (get_or ss j unused_stream) (i + j) ≡ stats_of (get_or ss j unused_stream) (get_or s.chains (i + j) (new_chain unused_stream)))
+      → rows_from i ss ts bs vs ≡ stream_stats i ss c s
   unfolding rows_from stream_stats
   rows_from_lem i [] at = refl
   rows_from_lem i (x ∷ ss) at =
       let e : (j : ℕ) → suc i + j ≡ i + suc j = λ j. omega arith in
-      let a : row_at fl cn x i ≡ stats_of x (get_or s.chains i (new_chain unused_stream)) = rw (add-zero i) at (at 0 (omega arith)) in
+      let a : row_at ts bs vs x i ≡ stats_of x (get_or s.chains i (new_chain unused_stream)) = rw (add-zero i) at (at 0 (omega arith)) in
       rw (a, rows_from_lem (suc i) ss (λ j h. rw (e j) (at (suc j) (omega arith))))
 
   -- the rows are the figures of the definition's state s
   pub rows_are : (w : List Float) (depth k : ℕ) (system : SystemChain)
       → ((i : ℕ) → i < c.stream_count
-      → ChainIs w (get_or c.streams i unused_stream) (8 * depth * i) depth k (tb_in fl i) (main_in fl cn i) (video_in fl cn i) (get_or s.chains i (new_chain unused_stream)))
+      → ChainIs w (get_or c.streams i unused_stream) (8 * depth * i) depth k (get_or ts i unused_tb) (get_or bs i main-work.newBranch) (get_or vs i video-work.newBranch) (get_or s.chains i (new_chain unused_stream)))
       → system.tb ≡ s.sys_tb → system.branch ≡ s.sys
-      → rows_from 0 (streams_of c) fl cn ++ system_rows c system ≡ stream_stats 0 (streams_of c) c s ++ system_stats c s
+      → rows_from 0 (streams_of c) ts bs vs ++ system_rows c system ≡ stream_stats 0 (streams_of c) c s ++ system_stats c s
   unfolding system_rows system_row system_stats
   rows_are w depth k system chains e f =
-      let at : (j : ℕ) → j < length (streams_of c) → row_at fl cn (get_or (streams_of c) j unused_stream) (0 + j) ≡ stats_of (get_or (streams_of c) j unused_stream) (get_or s.chains (0 + j) (new_chain unused_stream)) =
+      let at : (j : ℕ) → j < length (streams_of c) → row_at ts bs vs (get_or (streams_of c) j unused_stream) (0 + j) ≡ stats_of (get_or (streams_of c) j unused_stream) (get_or s.chains (0 + j) (new_chain unused_stream)) =
       λ j h.
       let l : j < c.stream_count = omega (arith, length-take c.stream_count c.streams, min-le_left c.stream_count (length c.streams)) in
       rw (zero-add j, get_or-take c.stream_count c.streams j unused_stream l) (row_is (chains j l)) in

@@ -1,0 +1,248 @@
+-- A chain of the definition as pass 2 holds it: the new one, a step of it, what a change elsewhere in the work leaves, and its figures.
+use Rattle.std.proofs.Common.{◌≡◌, ℕ, suc, ◌+◌, ◌*◌, ◌^◌, ◌<◌, ◌≤◌, Bool, true, false, ◌⊎◌, List, length, sym, refl, ap, ◌∙◌, inl, inr, ⊎_elim, true≢false, arith}
+use lib.Ieee.{Float, to_unsigned}
+use Rattle.ieee.specs.Binary64.{◌⊘◌, 8f}
+use Rattle.fifo.specs.FluidFifo.{new}
+use Rattle.events.specs.Slots.{Slots, noted_all}
+use Rattle.branch.specs.declared.Delivered.{Delivered}
+use Rattle.branch.specs.declared.main_branch.MainModel.{MainModel}
+use Rattle.branch.specs.declared.main_branch.MainBranch.{MainBranch}
+use Rattle.branch.specs.declared.main_branch.Stepped.{Stepped as MainStepped}
+use Rattle.branch.specs.declared.video_branch.VideoModel.{VideoModel}
+use Rattle.branch.specs.declared.video_branch.VideoBranch.{VideoBranch}
+use Rattle.branch.specs.declared.video_branch.Stepped.{Stepped as VideoStepped}
+use Rattle.branch.specs.Queue.{SameOutside, three_at}
+use Rattle.branch.specs.InflowInWork.{run_of}
+use Rattle.branch.specs.MainBranch.{new_main, main_step}
+use Rattle.branch.specs.VideoStep.{new_video, video_step}
+use Rattle.branch.specs.MainInWork.{runs_place, units_place, unit_of, main_of, BranchLies}
+use Rattle.branch.specs.MainInWork as main-work
+use Rattle.branch.specs.VideoInWork.{mark_at, unit_at, flow_of, leak_of, video_of, VideoLies, chain_of, layout_of, rates_of}
+use Rattle.branch.specs.VideoInWork as video-work
+use Rattle.branch.proofs.Rings.{kept, lies_kept, three_local, outside_wider}
+use Rattle.branch.proofs.HeaderMarks.{mark_local}
+use Rattle.branch.proofs.MainSteps as main-laws
+use Rattle.branch.proofs.VideoSteps as video-laws
+use Rattle.branch.proofs.Counts as main-counts
+use Rattle.branch.proofs.VideoCounts as video-counts
+use Rattle.profile.specs.declared.model.TStdBranch.{TStdBranch}
+use Rattle.profile.specs.declared.config.TStdStream.{TStdStream}
+use Rattle.transport.specs.Arrive.{float}
+use Rattle.fifo.specs.declared.FluidFifo.{FluidFifo}
+use Rattle.model.specs.Chain.{Branch, main, video, Chain, new_chain, Stepped, step_branch, stats_of}
+use Rattle.tstd.specs.declared.stream.StreamModel.{StreamModel}
+use Rattle.tstd.specs.InWork.{model_by, stream_model, branch_in, units_of, ChainIs}
+
+-- ---- the branch of a chain, by its kind
+
+record BranchIs (w : List Float) (m : TStdBranch) (pid base depth k : ℕ) (b : MainBranch) (v : VideoBranch) (y : Branch) : Type 0 where
+  pub branch : branch_in w (model_by m pid base depth) b v ≡ y
+  pub main_lies : (model_by m pid base depth).is_video ≡ false → BranchLies w (model_by m pid base depth).main b
+  pub video_lies : (model_by m pid base depth).is_video ≡ true → VideoLies w (layout_of (model_by m pid base depth).video) v
+  pub room : base + 8 * depth ≤ length w
+  pub units : units_of y ≤ k
+
+of_chain : {w : List Float} {s : TStdStream} {base depth k : ℕ} {t : FluidFifo} {b : MainBranch} {v : VideoBranch} {x : Chain}
+    → ChainIs w s base depth k t b v x → BranchIs w s.model.branch s.pid base depth k b v x.branch
+of_chain c = record { branch = c.branch; main_lies = c.main_lies; video_lies = c.video_lies; room = c.room; units = c.units }
+
+chain_of_lem : {w : List Float} {s : TStdStream} {base depth k : ℕ} {t : FluidFifo} {b : MainBranch} {v : VideoBranch} {x : Chain}
+    → t ≡ x.tb → BranchIs w s.model.branch s.pid base depth k b v x.branch → ChainIs w s base depth k t b v x
+chain_of_lem e c = record { tb = e; branch = c.branch; main_lies = c.main_lies; video_lies = c.video_lies; room = c.room; units = c.units }
+
+-- the model of a kind
+abbrev main_model : ℕ → ℕ → ℕ → MainModel
+main_model size base depth = record { buffer_size = float size; base = base; depth = depth }
+
+abbrev video_model : ℕ → ℕ → ℕ → ℕ → ℕ → VideoModel
+video_model rbx mb eb base depth = record { rbx = float rbx ⊘ 8f; mb_size = float mb; eb_size = float eb; base = base; depth = depth }
+
+module _ {w : List Float} {pid base depth k : ℕ} {b : MainBranch} {v : VideoBranch} {y : Branch} where
+  main_is : (size : ℕ) → main (main_of w (main_model size base depth) b) ≡ y → BranchLies w (main_model size base depth) b → base + 8 * depth ≤ length w → units_of y ≤ k
+      → BranchIs w (TStdBranch.Main size) pid base depth k b v y
+  unfolding branch_in model_by
+  main_is size e l r u = record { branch = e; main_lies = λ h. l; video_lies = λ h. absurd (true≢false (sym h)); room = r; units = u }
+
+  video_is : (rbx mb eb : ℕ) → video (chain_of w (layout_of (video_model rbx mb eb base depth)) v) ≡ y → VideoLies w (layout_of (video_model rbx mb eb base depth)) v → base + 8 * depth ≤ length w → units_of y ≤ k
+      → BranchIs w (TStdBranch.Video rbx mb eb) pid base depth k b v y
+  unfolding branch_in model_by
+  video_is rbx mb eb e l r u = record { branch = e; main_lies = λ h. absurd (true≢false h); video_lies = λ h. l; room = r; units = u }
+
+-- ---- the new chain
+
+new_by : (w : List Float) (s : TStdStream) (m : TStdBranch) (pid base depth : ℕ) → s.model.branch ≡ m → 0 < depth → base + 8 * depth ≤ length w
+    → BranchIs w m pid base depth 0 main-work.newBranch video-work.newBranch (new_chain s).branch
+unfolding new_chain new_main new_video
+new_by w s (TStdBranch.Main size) pid base depth e d r =
+    let p = main_model size base depth in
+    rw e (main_is size (ap main (main-laws.new_is w p)) (main-laws.new-lies w p d (omega arith)) r (omega arith))
+new_by w s (TStdBranch.Video rbx mb eb) pid base depth e d r =
+    let p = video_model rbx mb eb base depth in
+    rw e (video_is rbx mb eb (ap video (video-laws.new_is w (layout_of p))) (video-laws.new-lies w p d r) r (omega arith))
+
+pub new_is : (w : List Float) (s : TStdStream) (base depth : ℕ) (t : FluidFifo) → 0 < depth → base + 8 * depth ≤ length w → t ≡ new s.model.rx_bps
+    → ChainIs w s base depth 0 t main-work.newBranch video-work.newBranch (new_chain s)
+unfolding new_chain
+new_is w s base depth t d r e = chain_of_lem e (new_by w s s.model.branch s.pid base depth refl d r)
+
+-- ---- a step
+
+-- the end does not ask what is delivered, and when
+pub end_any : (m : TStdBranch) (depth : ℕ) (d d' : Delivered) (time time' : Float) (y : Branch) → step_branch m depth d true time y ≡ step_branch m depth d' true time' y
+unfolding step_branch main_step video_step
+end_any (TStdBranch.Main size) depth d d' time time' (main b) = refl
+end_any (TStdBranch.Main size) depth d d' time time' (video b) = refl
+end_any (TStdBranch.Video rbx mb eb) depth d d' time time' (main b) = refl
+end_any (TStdBranch.Video rbx mb eb) depth d d' time time' (video b) = refl
+
+record BranchStepIs (w u : List Float) (m : TStdBranch) (pid base depth k slot : ℕ) (sl sl' : Slots) (st : Stepped) (isFull : Bool) (b : MainBranch) (v : VideoBranch) : Type 0 where
+  pub full : isFull ≡ st.full
+  pub slots : sl' ≡ noted_all slot st.events sl
+  pub outside : SameOutside base (base + 8 * depth) w u
+  pub branch : BranchIs u m pid base depth (suc k) b v st.branch
+
+-- a step of the chain of stream s to st: isFull is what the code says, u the work, sl' the slots, b and v the branches after it
+pub record StepIs (w u : List Float) (s : TStdStream) (base depth k slot : ℕ) (sl sl' : Slots) (st : Stepped) (isFull : Bool) (b : MainBranch) (v : VideoBranch) : Type 0 where
+  pub full : isFull ≡ st.full
+  pub slots : sl' ≡ noted_all slot st.events sl
+  pub outside : SameOutside base (base + 8 * depth) w u
+  pub chain : (t : FluidFifo) (z : Chain) → t ≡ z.tb → st.branch ≡ z.branch → ChainIs u s base depth (suc k) t b v z
+
+step_of : {w u : List Float} {s : TStdStream} {base depth k slot : ℕ} {sl sl' : Slots} {st : Stepped} {full : Bool} {b : MainBranch} {v : VideoBranch}
+    → BranchStepIs w u s.model.branch s.pid base depth k slot sl sl' st full b v → StepIs w u s base depth k slot sl sl' st full b v
+step_of a = record { full = a.full; slots = a.slots; outside = a.outside; chain = λ t z e f. chain_of_lem e (rw f at a.branch) }
+
+module _ (w u : List Float) (pid base depth k : ℕ) (b : MainBranch) (v : VideoBranch) (d : Delivered) (end : Bool) (time : Float) (slot : ℕ) (sl sl' : Slots) (hs : slot < 64) (hk : k < 2 ^ 62) where
+  main_stepped : (size : ℕ) (y : Branch) (r : MainStepped) → main (main_of w (main_model size base depth) b) ≡ y → BranchLies w (main_model size base depth) b → base + 8 * depth ≤ length w → units_of y ≤ k
+      → main-work.StepOf w (main_model size base depth) b d end time slot sl r u sl'
+      → BranchStepIs w u (TStdBranch.Main size) pid base depth k slot sl sl' (step_branch (TStdBranch.Main size) depth d end time y) r.full r.branch v
+  unfolding step_branch main_of
+  main_stepped size y r e l room units q =
+      let p = main_model size base depth in
+      let n : main-counts.unitsIn (main_of w p b) ≤ k = rw (← e) at units in
+      let a = q.steps (main-laws.lies-ready w p b slot (record { lies = l; units = omega arith; slots = hs })) in
+      let c = main-counts.step_counts (float size) depth d end time (main_of w p b) in
+      let o : SameOutside base (base + 8 * depth) w u = outside_wider (omega arith) (omega arith) a.outside in
+      rw (← e) (record { full = a.full; slots = a.slots; outside = o; branch = main_is size (ap main a.state) a.lies (rw o.size room) (omega arith) })
+
+  video_stepped : (rbx mb eb : ℕ) (y : Branch) (r : VideoStepped) → video (chain_of w (layout_of (video_model rbx mb eb base depth)) v) ≡ y → VideoLies w (layout_of (video_model rbx mb eb base depth)) v → base + 8 * depth ≤ length w → units_of y ≤ k
+      → video-work.StepOf w (video_model rbx mb eb base depth) v d end time slot sl r u sl'
+      → BranchStepIs w u (TStdBranch.Video rbx mb eb) pid base depth k slot sl sl' (step_branch (TStdBranch.Video rbx mb eb) depth d end time y) r.full b r.branch
+  unfolding step_branch chain_of video_of
+  video_stepped rbx mb eb y r e l room units q =
+      let p = video_model rbx mb eb base depth in
+      let x = chain_of w (layout_of p) v in
+      let n : video-counts.unitsIn x.branch ≤ k = rw (← e) at units in
+      let a = q.steps (video-laws.lies-ready w p v slot (record { room = room; lies = l; units = omega arith; slot = hs })) in
+      let c = video-counts.step_counts (rates_of (layout_of p)) depth d end time x in
+      let o : SameOutside base (base + 8 * depth) w u = outside_wider (omega arith) (omega arith) a.outside in
+      rw (← e) (record { full = a.full; slots = a.slots; outside = o; branch = video_is rbx mb eb (ap video a.state) a.lies (rw o.size room) (omega arith) })
+
+  main_by : (m : TStdBranch) (y : Branch) (r : MainStepped) → (model_by m pid base depth).is_video ≡ false → BranchIs w m pid base depth k b v y
+      → main-work.StepOf w (model_by m pid base depth).main b d end time slot sl r u sl'
+      → BranchStepIs w u m pid base depth k slot sl sl' (step_branch m depth d end time y) r.full r.branch v
+  unfolding model_by branch_in
+  main_by (TStdBranch.Main size) y r h i q = main_stepped size y r i.branch (i.main_lies refl) i.room i.units q
+  main_by (TStdBranch.Video rbx mb eb) y r h i q = absurd (true≢false h)
+
+  video_by : (m : TStdBranch) (y : Branch) (r : VideoStepped) → (model_by m pid base depth).is_video ≡ true → BranchIs w m pid base depth k b v y
+      → video-work.StepOf w (model_by m pid base depth).video v d end time slot sl r u sl'
+      → BranchStepIs w u m pid base depth k slot sl sl' (step_branch m depth d end time y) r.full b r.branch
+  unfolding model_by branch_in
+  video_by (TStdBranch.Main size) y r h i q = absurd (true≢false (sym h))
+  video_by (TStdBranch.Video rbx mb eb) y r h i q = video_stepped rbx mb eb y r i.branch (i.video_lies refl) i.room i.units q
+
+module _ {w u : List Float} {s : TStdStream} {base depth k : ℕ} {t : FluidFifo} {b : MainBranch} {v : VideoBranch} {x : Chain} (c : ChainIs w s base depth k t b v x)
+    {d : Delivered} {end : Bool} {time : Float} {slot : ℕ} {sl sl' : Slots} (hs : slot < 64) (hk : k < 2 ^ 62) where
+  pub main_steps : {r : MainStepped} → (stream_model s base depth).is_video ≡ false → main-work.StepOf w (stream_model s base depth).main b d end time slot sl r u sl'
+      → StepIs w u s base depth k slot sl sl' (step_branch s.model.branch depth d end time x.branch) r.full r.branch v
+  main_steps {r} h q = step_of (main_by w u s.pid base depth k b v d end time slot sl sl' hs hk s.model.branch x.branch r h (of_chain c) q)
+
+  pub video_steps : {r : VideoStepped} → (stream_model s base depth).is_video ≡ true → video-work.StepOf w (stream_model s base depth).video v d end time slot sl r u sl'
+      → StepIs w u s base depth k slot sl sl' (step_branch s.model.branch depth d end time x.branch) r.full b r.branch
+  video_steps {r} h q = step_of (video_by w u s.pid base depth k b v d end time slot sl sl' hs hk s.model.branch x.branch r h (of_chain c) q)
+
+-- ---- a change of the work elsewhere, and a larger count
+
+module _ {lo hi : ℕ} {w u : List Float} (o : SameOutside lo hi w u) where
+  main_kept : (p : MainModel) (b : MainBranch) → BranchLies w p b → (p.base + 8 * p.depth ≤ lo) ⊎ (hi ≤ p.base) → main_of u p b ≡ main_of w p b
+  unfolding main_of
+  main_kept p b l h =
+      rw (
+        kept 3 (λ z i. run_of (three_at z i)) (three_local run_of) (runs_place p) b.inflow.runs l.runs o (⊎_elim (λ x. inl (omega arith)) (λ x. inr (omega arith)) h),
+        kept 3 (λ z i. unit_of (three_at z i)) (three_local unit_of) (units_place p) b.pending l.pending o (⊎_elim (λ x. inl (omega arith)) (λ x. inr (omega arith)) h),
+      )
+
+  video_kept : (p : VideoModel) (v : VideoBranch) → VideoLies w (layout_of p) v → (p.base + 8 * p.depth ≤ lo) ⊎ (hi ≤ p.base) → chain_of u (layout_of p) v ≡ chain_of w (layout_of p) v
+  unfolding chain_of video_of leak_of flow_of unit_at
+  video_kept p v l h =
+      let m = layout_of p in
+      rw (
+        kept 3 (λ z i. run_of (three_at z i)) (three_local run_of) m.runs v.leak.mb_in.runs l.leak.runs o (⊎_elim (λ x. inl (omega arith)) (λ x. inr (omega arith)) h),
+        kept 2 mark_at mark_local m.marks v.leak.flow.marks l.leak.marks o (⊎_elim (λ x. inl (omega arith)) (λ x. inr (omega arith)) h),
+        kept 3 (λ z i. unit_of (three_at z i)) (three_local unit_of) m.units v.pending l.pending o (⊎_elim (λ x. inl (omega arith)) (λ x. inr (omega arith)) h),
+      )
+
+  kept_by : (m : TStdBranch) (pid base depth k : ℕ) (b : MainBranch) (v : VideoBranch) (y : Branch) → BranchIs w m pid base depth k b v y → (base + 8 * depth ≤ lo) ⊎ (hi ≤ base)
+      → BranchIs u m pid base depth k b v y
+  unfolding model_by branch_in
+  kept_by (TStdBranch.Main size) pid base depth k b v y i h =
+      let p = main_model size base depth in
+      let l = i.main_lies refl in
+      main_is size (ap main (main_kept p b l h) ∙ i.branch) (record { runs = lies_kept o l.runs; pending = lies_kept o l.pending }) (rw o.size i.room) i.units
+  kept_by (TStdBranch.Video rbx mb eb) pid base depth k b v y i h =
+      let p = video_model rbx mb eb base depth in
+      let l = i.video_lies refl in
+      video_is rbx mb eb (ap video (video_kept p v l h) ∙ i.branch)
+      (record { leak = record { runs = lies_kept o l.leak.runs; marks = lies_kept o l.leak.marks }; pending = lies_kept o l.pending }) (rw o.size i.room) i.units
+
+module _ {w : List Float} {s : TStdStream} {base depth k : ℕ} {t : FluidFifo} {b : MainBranch} {v : VideoBranch} {x : Chain} (c : ChainIs w s base depth k t b v x) where
+  pub chain_kept : {lo hi : ℕ} {u : List Float} → SameOutside lo hi w u → (base + 8 * depth ≤ lo) ⊎ (hi ≤ base) → ChainIs u s base depth k t b v x
+  chain_kept o h = chain_of_lem c.tb (kept_by o s.model.branch s.pid base depth k b v x.branch (of_chain c) h)
+
+  pub chain_more : {k' : ℕ} → k ≤ k' → ChainIs w s base depth k' t b v x
+  chain_more h =
+      record { tb = c.tb; branch = c.branch; main_lies = c.main_lies; video_lies = c.video_lies; room = c.room; units = omega (arith, c.units) }
+
+-- ---- the chain's figures
+
+main_here : (w : List Float) (m : StreamModel) (b : MainBranch) (v : VideoBranch) (y : Branch) → m.is_video ≡ false → branch_in w m b v ≡ y → main (main_of w m.main b) ≡ y
+unfolding branch_in
+main_here w m b v y h e = rw h at e
+
+video_here : (w : List Float) (m : StreamModel) (b : MainBranch) (v : VideoBranch) (y : Branch) → m.is_video ≡ true → branch_in w m b v ≡ y → video (chain_of w (layout_of m.video) v) ≡ y
+unfolding branch_in
+video_here w m b v y h e = rw h at e
+
+module _ {w : List Float} {s : TStdStream} {base depth k : ℕ} {t : FluidFifo} {b : MainBranch} {v : VideoBranch} {x : Chain} (c : ChainIs w s base depth k t b v x) where
+  pub stats_main : (stream_model s base depth).is_video ≡ false
+      → stats_of s x
+      ≡ record {
+        pid = s.pid;
+        peak_tb_bytes = to_unsigned 64 t.peak;
+        peak_main_bytes = to_unsigned 64 b.peak;
+        peak_eb_bytes = 0;
+        access_units = b.access_units;
+        max_delay_seconds = b.max_delay_seconds;
+      }
+  unfolding stats_of
+  stats_main h =
+      let m = stream_model s base depth in
+      let f = main-laws.figures-of w m.main b in
+      rw (← main_here w m b v x.branch h c.branch, ← c.tb, f.0, f.1.0, f.1.1)
+
+  pub stats_video : (stream_model s base depth).is_video ≡ true
+      → stats_of s x
+      ≡ record {
+        pid = s.pid;
+        peak_tb_bytes = to_unsigned 64 t.peak;
+        peak_main_bytes = to_unsigned 64 v.leak.mb_peak;
+        peak_eb_bytes = to_unsigned 64 v.leak.flow.eb_peak;
+        access_units = v.access_units;
+        max_delay_seconds = v.max_delay_seconds;
+      }
+  unfolding stats_of chain_of
+  stats_video h =
+      let m = stream_model s base depth in
+      let f = video-laws.figures-of w (layout_of m.video) v in
+      rw (← video_here w m b v x.branch h c.branch, ← c.tb, f.0.0, f.0.1, f.1.0, f.1.1)
