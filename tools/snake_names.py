@@ -92,8 +92,15 @@ def of_libraries(text):
     return {n.strip() for m in uses for n in m.group(2).split(",")}
 
 
+def modules_named(text):
+    """The names by which a file calls modules of this repository, as `laws` of `use Rattle.syntax.proofs.AdaptationField as laws`."""
+    crates = {p.name for p in ROOT.glob("crates/*")}
+    uses = re.findall(r"(?m)^use Rattle\.(\w+)\.[\w.]+ as ([\w'-]+)$", text)
+    return {name for crate, name in uses if crate in crates}
+
+
 def turn(text, table, fields):
-    kept = of_libraries(text)
+    kept, modules = of_libraries(text), modules_named(text)
     table = {n: v for n, v in table.items() if n not in kept}
     out, last = [], 0
     for m in PIECE.finditer(text):
@@ -101,8 +108,9 @@ def turn(text, table, fields):
         if piece.startswith("--"):
             piece = re.sub(r"`([^`\n]*)`", lambda s: "`" + turn(s.group(1), table, fields) + "`", piece)
         elif not piece.startswith('"'):
-            dotted = re.search(r"(?<!\.)\.$", text[: m.start()][-2:])
-            plain = table if not dotted else ({} if re.search(r"[a-z0-9_)'-]\.$", text[: m.start()][-2:]) else table)
+            before = text[max(0, m.start() - 80) : m.start()]
+            head = re.search(r"([\w'-]+)\.$", before)
+            plain = table if not re.search(r"[\w)'-]\.$", before) or head and head.group(1) in modules else {}
             piece = plain.get(piece, fields.get(piece, piece))
         out += [text[last : m.start()], piece]
         last = m.end()
