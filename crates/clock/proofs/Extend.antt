@@ -39,13 +39,15 @@ module _ (raw reference : ℕ) where
   unfolding epochs_around
   in_first e (here n) = omega arith
   in_first e (there h (here n)) = omega arith
+  in_first {r = r} e (there h (there _ none)) = elim none [ ]
 
-  in_later : {r : ℕ} (b : ℕ) → reference / timestamp_modulus ≡ suc b
+  in_later : (b : ℕ) {r : ℕ} → reference / timestamp_modulus ≡ suc b
       → Picks reference (map (in_epoch raw) (epochs_around (suc b))) r → Extends raw reference r
   unfolding epochs_around
   in_later b e (here n) = omega arith
   in_later b e (there h (here n)) = omega arith
   in_later b e (there h (there g (here n))) = above b e g
+  in_later b {r = r} e (there h (there g (there _ none))) = elim none [ ]
 
   in_epochs : (own : ℕ) → reference / timestamp_modulus ≡ own
       → Extends raw reference (nearest reference (map (in_epoch raw) (epochs_around own)))

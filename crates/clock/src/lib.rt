@@ -1,4 +1,6 @@
 // The two clocks of H.222.0 2.4.2: the step between two PCRs (27 MHz), and a 33-bit PTS or DTS (90 kHz) brought onto the 64-bit timeline.
+#![tactic(auto)]
+
 ghost use Rattle.std.specs.Prelude.{◌≡◌, [], ◌∷◌, ◌-◌, ◌^◌, ◌<◌, nat_abs};
 ghost use Rattle.clock.specs.Timestamp.{timestamp_modulus, distance, in_epoch, nearest, nearest_timestamp, extend_near};
 ghost use Rattle.clock.specs.Pcr.{pcr_modulus, wrapped, delta_ticks};
@@ -14,21 +16,21 @@ const REFERENCE_LIMIT: u64 = u64::MAX - TIMESTAMP_MODULUS_90KHZ + 1;
 // One wrap of the composed PCR, base × 300 + extension.
 pub const PCR_MODULUS_27MHZ: u64 = (1 << 33) * 300;
 
-#[derive(Drop)]
+#[derive(Clone, Copy)]
 pub enum Extended {
     Timestamp(u64),
     // Number 1: the reference is at the limit or above.
     Refused(Refusal),
 }
 
-#[derive(Drop)]
+#[derive(Clone, Copy)]
 pub enum Delta {
     Ticks(i64),
     // Number 1: ticks of a whole wrap or more.
     Refused(Refusal),
 }
 
-#[derive(Drop)]
+#[derive(Clone, Copy)]
 pub struct Pcr {
     pub ticks_27mhz: u64,
 }

@@ -1,8 +1,10 @@
 // The refusals of the replay and of the functions under it, and the numbers by which they are told.
+#![tactic(auto)]
+
 ghost use Rattle.std.specs.Prelude.{◌≡◌};
 ghost use Rattle.error.specs.Code.{code_of, code_numbered, code_placed};
 
-#[derive(Drop)]
+#[derive(Clone, Copy)]
 pub enum Refusal {
     // A profile field, or an argument, is outside its limit.
     OutsideLimits,
@@ -22,7 +24,7 @@ pub enum Refusal {
     QueueFull { packet: u64, pid: u16 },
 }
 
-#[derive(Drop)]
+#[derive(Clone, Copy)]
 pub struct Code {
     pub number: u8,
     pub place: u64,

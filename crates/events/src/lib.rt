@@ -1,6 +1,8 @@
 // What is kept of the events of a replay: for each kind of event of a chain a slot in two arrays that the caller lends.
 // firsts[0] counts the events. Slot k, from 1 to 63, has the number of its first event in firsts[k] (0: none yet), its largest
 // figure in figures[k], and the decode time of its first event in figures[64 + k].
+#![tactic(auto)]
+
 ghost use Rattle.std.specs.Prelude.{◌≡◌};
 ghost use Rattle.events.specs.Slots.{slots, noted, noted_if};
 

@@ -1,5 +1,7 @@
 // A transport buffer (H.222.0 2.4.2) as a fluid FIFO with a constant drain rate: the Rust's `FluidFifo`.
 // -infinity stands for the Rust's `None` of `busy_since`, so that the record holds floats alone.
+#![tactic(auto)]
+
 ghost use Rattle.std.specs.Prelude.{◌≡◌, true};
 ghost use Rattle.std.specs.Float.{inf};
 ghost use Rattle.fifo.specs.FluidFifo.{new, pushed};
@@ -12,7 +14,7 @@ fn neg_infinity() -> f64
 }
 
 // The rate is in bytes/s, the peak in bytes, the rest in seconds.
-#[derive(Drop)]
+#[derive(Clone, Copy)]
 pub struct FluidFifo {
     pub rate: f64,
     pub virtual_done: f64,
@@ -21,7 +23,7 @@ pub struct FluidFifo {
     pub longest_busy: f64,
 }
 
-#[derive(Drop)]
+#[derive(Clone, Copy)]
 pub struct Pushed {
     pub fifo: FluidFifo,
     pub start: f64,
@@ -57,9 +59,10 @@ impl FluidFifo {
         }
         let mut since = self.busy_since;
         let mut longest = self.longest_busy;
+        let idle = self.virtual_done < t0 - 1e-6;
         if since == neg_infinity() {
             since = t0;
-        } else if self.virtual_done < t0 - 1e-6 {
+        } else if idle {
             longest = ieee::max(longest, self.virtual_done - since);
             since = t0;
         }

@@ -1,5 +1,7 @@
 // Floats of the replay: the larger and the smaller of two, the whole number toward zero and a count as a float. The laws on floats
 // stand in proofs/.
+#![tactic(auto)]
+
 ghost use Rattle.std.specs.Prelude.{◌≡◌, pos};
 ghost use Rattle.std.specs.Float.Ieee as Ieee;
 ghost use Rattle.ieee.specs.MaxMin.{max_of, min_of, max_num};

@@ -1,4 +1,6 @@
 // Which PES packets have the optional header (H.222.0, 2.4.3.6), and the 33-bit time stamp (2.4.3.7).
+#![tactic(auto)]
+
 ghost use Rattle.std.specs.Prelude.{◌≡◌, ◌∷◌, []};
 ghost use Rattle.pes.specs.StreamId.{has_optional_header};
 ghost use Rattle.syntax.specs.TimeStamp.{timestamp};
