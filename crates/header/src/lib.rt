@@ -1,12 +1,14 @@
 // The part of a packet's header that every packet is asked for: its PID, whether a unit starts in it, and where its payload begins.
 // It is read straight from the bytes; of an adaptation field only its length, and whether it has room for its parts.
+#![tactic(auto)]
+
 ghost use Rattle.std.specs.Prelude.{◌≡◌, cond, ◌+◌, ◌*◌, ◌/◌, ◌%◌, eqb};
 ghost use Rattle.packet.specs.Packet.{parse_of};
 ghost use Rattle.header.specs.Header.{header_of, enough};
 
 use packet::Room;
 
-#[derive(Drop)]
+#[derive(Clone, Copy)]
 pub enum PacketHeader {
     Unparsed,
     Parsed {
@@ -63,8 +65,9 @@ pub fn read(bytes: &[u8]) -> PacketHeader
     let b1 = bytes[1];
     let b2 = bytes[2];
     let b3 = bytes[3];
+    let has_field = b3 / 32 % 2 == 1;
     let mut from = 4;
-    if b3 / 32 % 2 == 1 {
+    if has_field {
         from = 5 + wide_size(bytes[4]);
         if 188 < from {
             return PacketHeader::Unparsed;

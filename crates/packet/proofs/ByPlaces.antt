@@ -57,39 +57,39 @@ module _ (s : List ℕ) (h : Bytes s) where
   -- the byte of flags
   module _ (f : ℕ) (k : Flagged s f) where
     pub has_flags_lem : has_flags (field table_2_6 s) ≡ true
-    has_flags_lem = laws.has-flags s (h 0) k.some
+    has_flags_lem = laws.has_flags_lem s (h 0) k.some
 
     discontinuity_on : is_set s "discontinuity_indicator" ≡ eqb (f / 128 % 2) 1
-    discontinuity_on = rw k.flags (fields.discontinuity-flag s has_flags_lem)
+    discontinuity_on = rw k.flags (fields.discontinuity_flag s has_flags_lem)
 
     random_access_on : is_set s "random_access_indicator" ≡ eqb (f / 64 % 2) 1
-    random_access_on = rw k.flags (fields.random-access-flag s has_flags_lem)
+    random_access_on = rw k.flags (fields.random_access_flag s has_flags_lem)
 
     priority_on : is_set s "elementary_stream_priority_indicator" ≡ eqb (f / 32 % 2) 1
-    priority_on = rw k.flags (fields.priority-flag s has_flags_lem)
+    priority_on = rw k.flags (fields.priority_flag s has_flags_lem)
 
     pub pcr_on : is_set s "PCR_flag" ≡ eqb (f / 16 % 2) 1
-    pcr_on = rw k.flags (fields.pcr-flag s has_flags_lem)
+    pcr_on = rw k.flags (fields.pcr_flag s has_flags_lem)
 
     pub opcr_on : is_set s "OPCR_flag" ≡ eqb (f / 8 % 2) 1
-    opcr_on = rw k.flags (fields.opcr-flag s has_flags_lem)
+    opcr_on = rw k.flags (fields.opcr_flag s has_flags_lem)
 
     pub countdown_on : is_set s "splicing_point_flag" ≡ eqb (f / 4 % 2) 1
-    countdown_on = rw k.flags (fields.splicing-flag s has_flags_lem)
+    countdown_on = rw k.flags (fields.splicing_flag s has_flags_lem)
 
     pub private_on : is_set s "transport_private_data_flag" ≡ eqb (f / 2 % 2) 1
-    private_on = rw k.flags (fields.private-flag s has_flags_lem)
+    private_on = rw k.flags (fields.private_flag s has_flags_lem)
 
     pub extension_on : is_set s "adaptation_field_extension_flag" ≡ eqb (f % 2) 1
-    extension_on = rw k.flags (fields.extension-flag s has_flags_lem)
+    extension_on = rw k.flags (fields.extension_flag_lem s has_flags_lem)
 
     module _ (p : Places) (at : Placed s p) where
       pub private_count : is_set s "transport_private_data_flag" ≡ true → read s "transport_private_data_length" ≡ get_or s p.private_length 0
-      private_count on = fields.private-length s on ∙ rw (at.private on) (byte s p.private_length (h p.private_length))
+      private_count on = fields.private_length s on ∙ rw (at.private on) (byte s p.private_length (h p.private_length))
 
       private_start : is_set s "transport_private_data_flag" ≡ true → place s "private_data_byte" ≡ p.private_length + 1
       private_start on =
-          byte_of (offset table_2_6 s "private_data_byte") (p.private_length + 1) (fields.private-bytes s on ∙ rw (at.private on) (omega arith))
+          byte_of (offset table_2_6 s "private_data_byte") (p.private_length + 1) (fields.private_bytes s on ∙ rw (at.private on) (omega arith))
 
       pub room_by : room_of s
           ≡ cond (eqb (f / 16 % 2) 1 && ltb (length s) (2 + 6)) (Room.Truncated (length s - 2) 6)
@@ -99,7 +99,7 @@ module _ (s : List ℕ) (h : Bytes s) where
       unfolding room_of
       room_by =
           wants_by (length s) (place s "program_clock_reference_base") 2 6 6 (is_set s "PCR_flag") (eqb (f / 16 % 2) 1) _ _ pcr_on
-          (λ on. byte_of (offset table_2_6 s "program_clock_reference_base") 2 (fields.at-pcr s has_flags_lem h on)) (λ on. refl)
+          (λ on. byte_of (offset table_2_6 s "program_clock_reference_base") 2 (fields.at_pcr s has_flags_lem h on)) (λ on. refl)
           (wants_by (length s) (place s "original_program_clock_reference_base") p.opcr 6 6 (is_set s "OPCR_flag") (eqb (f / 8 % 2) 1) _ _ opcr_on
           (λ on. byte_of (offset table_2_6 s "original_program_clock_reference_base") p.opcr (at.opcr on)) (λ on. refl)
           (wants_by (length s) (place s "splice_countdown") p.splice_countdown 1 1 (is_set s "splicing_point_flag") (eqb (f / 4 % 2) 1) _ _
@@ -151,23 +151,23 @@ module _ (s : List ℕ) (h : Bytes s) where
       field_by =
           λ i.
           record {
-            length = (laws.adaptation-field-length s ∙ byte s 0 (h 0)) i;
+            length = (laws.adaptation_field_length s ∙ byte s 0 (h 0)) i;
             discontinuity_indicator = discontinuity_on i;
             random_access_indicator = random_access_on i;
             elementary_stream_priority_indicator = priority_on i;
             pcr =
                 same_choice (is_set s "PCR_flag") (eqb (f / 16 % 2) 1) _ _ MaybeClockReference.Absent pcr_on
-                (λ on. clock _ _ _ 2 (fields.pcr-base s on) (fields.pcr-extension s on) (fields.at-pcr s has_flags_lem h on)) i;
+                (λ on. clock _ _ _ 2 (fields.pcr_base s on) (fields.pcr_extension s on) (fields.at_pcr s has_flags_lem h on)) i;
             opcr =
                 same_choice (is_set s "OPCR_flag") (eqb (f / 8 % 2) 1) _ _ MaybeClockReference.Absent opcr_on
-                (λ on. clock _ _ _ p.opcr (fields.opcr-base s on) (fields.opcr-extension s on) (at.opcr on)) i;
+                (λ on. clock _ _ _ p.opcr (fields.opcr_base s on) (fields.opcr_extension s on) (at.opcr on)) i;
             splice_countdown =
                 same_choice (is_set s "splicing_point_flag") (eqb (f / 4 % 2) 1) _ _ MaybeSpliceCountdown.Absent countdown_on
-                (λ on. ap (λ (v : ℕ). MaybeSpliceCountdown.Present (tcimsbf8 v)) (fields.countdown-read s on ∙ ap (λ (o : ℕ). bits s o 8) (at.splice on)))
+                (λ on. ap (λ (v : ℕ). MaybeSpliceCountdown.Present (tcimsbf8 v)) (fields.countdown_read s on ∙ ap (λ (o : ℕ). bits s o 8) (at.splice on)))
                 i;
             transport_private_data =
                 same_choice (is_set s "transport_private_data_flag") (eqb (f / 2 % 2) 1) _ _ MaybePrivateData.Absent private_on
-                (λ on. ap₂ MaybePrivateData.Present (private_start on) (fields.private-length s on ∙ ap (λ (o : ℕ). bits s o 8) (at.private on))) i;
+                (λ on. ap₂ MaybePrivateData.Present (private_start on) (fields.private_length s on ∙ ap (λ (o : ℕ). bits s o 8) (at.private on))) i;
             adaptation_field_extension =
                 cond (is_set s "adaptation_field_extension_flag") (MaybeExtension.Present (extension_of s)) MaybeExtension.Absent;
           }
@@ -183,10 +183,10 @@ module _ (s : List ℕ) (h : Bytes s) where
     count = get_or s d 0
 
     count_read : read s "adaptation_field_extension_length" ≡ count
-    count_read = fields.extension-length s x.set d x.place ∙ byte s d (h d)
+    count_read = fields.extension_length s x.set d x.place ∙ byte s d (h d)
 
     flags_start : place s "ltw_flag" ≡ d + 1
-    flags_start = byte_of (offset table_2_6 s "ltw_flag") (d + 1) (fields.ltw-flag-offset s x.set d x.place ∙ omega arith)
+    flags_start = byte_of (offset table_2_6 s "ltw_flag") (d + 1) (fields.ltw_flag_offset s x.set d x.place ∙ omega arith)
 
     end_is : extension_end s ≡ d + 1 + count
     end_is = ap₂ ◌+◌ flags_start count_read
@@ -226,23 +226,23 @@ module _ (s : List ℕ) (h : Bytes s) where
       flagged n a l e = rw flags (ap (λ (v : ℕ). eqb v 1) (e ∙ within s (d + 1) a 1 l))
 
       pub ltw_on : is_set s "ltw_flag" ≡ eqb (g / 128 % 2) 1
-      ltw_on = flagged "ltw_flag" 0 (omega arith) (fields.ltw-flag s x.set d x.place ∙ ap (λ (o : ℕ). bits s o 1) (omega arith))
+      ltw_on = flagged "ltw_flag" 0 (omega arith) (fields.ltw_flag s x.set d x.place ∙ ap (λ (o : ℕ). bits s o 1) (omega arith))
 
       pub rate_on : is_set s "piecewise_rate_flag" ≡ eqb (g / 64 % 2) 1
-      rate_on = flagged "piecewise_rate_flag" 1 (omega arith) (fields.rate-flag s x.set d x.place ∙ ap (λ (o : ℕ). bits s o 1) (omega arith))
+      rate_on = flagged "piecewise_rate_flag" 1 (omega arith) (fields.rate_flag s x.set d x.place ∙ ap (λ (o : ℕ). bits s o 1) (omega arith))
 
       pub splice_on : is_set s "seamless_splice_flag" ≡ eqb (g / 32 % 2) 1
-      splice_on = flagged "seamless_splice_flag" 2 (omega arith) (fields.splice-flag s x.set d x.place ∙ ap (λ (o : ℕ). bits s o 1) (omega arith))
+      splice_on = flagged "seamless_splice_flag" 2 (omega arith) (fields.splice_flag s x.set d x.place ∙ ap (λ (o : ℕ). bits s o 1) (omega arith))
 
       extended_is : (n : String) → extended s n ≡ is_set s n
       extended_is n = rw (x.set, count_read, lt-ltb 0 count some)
 
       module _ (rate splice : ℕ) (rate-is : rate ≡ cond (eqb (g / 128 % 2) 1) (d + 2 + 2) (d + 2))
           (splice-is : splice ≡ cond (eqb (g / 64 % 2) 1) (rate + 3) rate) where
-        at_rate_lem : fields.atRate s x.set d x.place ≡ rate
+        at_rate_lem : fields.at_rate s x.set d x.place ≡ rate
         at_rate_lem = rw (ltw_on, rate-is)
 
-        at_splice_lem : fields.atSplice s x.set d x.place ≡ splice
+        at_splice_lem : fields.at_splice s x.set d x.place ≡ splice
         at_splice_lem = rw (at_rate_lem, rate_on, splice-is)
 
         pub extension_fields_room_by : (end : ℕ) → end ≡ d + 1 + count → extension_fields_room s
@@ -253,11 +253,11 @@ module _ (s : List ℕ) (h : Bytes s) where
         extension_fields_room_by end e =
             rw (end_is, ← e, extended_is "ltw_flag", extended_is "piecewise_rate_flag", extended_is "seamless_splice_flag")
             (wants_by end (place s "ltw_valid_flag") (d + 2) 2 2 (is_set s "ltw_flag") (eqb (g / 128 % 2) 1) _ _ ltw_on
-            (λ on. byte_of (offset table_2_6 s "ltw_valid_flag") (d + 2) (fields.ltw-offset s x.set d x.place on)) (λ on. refl)
+            (λ on. byte_of (offset table_2_6 s "ltw_valid_flag") (d + 2) (fields.ltw_offset s x.set d x.place on)) (λ on. refl)
             (wants_by end (place s "piecewise_rate") rate 3 3 (is_set s "piecewise_rate_flag") (eqb (g / 64 % 2) 1) _ _ rate_on
-            (λ on. inside (offset table_2_6 s "piecewise_rate") rate (fields.rate-offset s x.set d x.place on ∙ rw at_rate_lem)) (λ on. refl)
+            (λ on. inside (offset table_2_6 s "piecewise_rate") rate (fields.rate_offset s x.set d x.place on ∙ rw at_rate_lem)) (λ on. refl)
             (wants_by end (place s "splice_type") splice 5 5 (is_set s "seamless_splice_flag") (eqb (g / 32 % 2) 1) _ _ splice_on
-            (λ on. byte_of (offset table_2_6 s "splice_type") splice (fields.splice-offset s x.set d x.place on ∙ rw at_splice_lem)) (λ on. refl)
+            (λ on. byte_of (offset table_2_6 s "splice_type") splice (fields.splice_offset s x.set d x.place on ∙ rw at_splice_lem)) (λ on. refl)
             refl)))
           where
             inside : (o a : ℕ) → o ≡ 8 * a + 2 → o / 8 ≡ a
@@ -268,14 +268,14 @@ module _ (s : List ℕ) (h : Bytes s) where
         ltw_by =
             rw (extended_is "ltw_flag")
             (same_choice (is_set s "ltw_flag") (eqb (g / 128 % 2) 1) _ _ _ ltw_on
-            (λ on. ap₂ MaybeLtw.Present (ap (λ (v : ℕ). eqb v 1) (fields.ltw-valid s x.set d x.place on)) (fields.ltw-read s x.set d x.place on)))
+            (λ on. ap₂ MaybeLtw.Present (ap (λ (v : ℕ). eqb v 1) (fields.ltw_valid s x.set d x.place on)) (fields.ltw_read s x.set d x.place on)))
 
         rate_by : cond (extended s "piecewise_rate_flag") (MaybePiecewiseRate.Present (read s "piecewise_rate")) MaybePiecewiseRate.Absent
             ≡ cond (eqb (g / 64 % 2) 1) (MaybePiecewiseRate.Present (bits s (8 * rate + 2) 22)) MaybePiecewiseRate.Absent
         rate_by =
             rw (extended_is "piecewise_rate_flag")
             (same_choice (is_set s "piecewise_rate_flag") (eqb (g / 64 % 2) 1) _ _ _ rate_on
-            (λ on. ap MaybePiecewiseRate.Present (fields.rate-read s x.set d x.place on ∙ rw at_rate_lem)))
+            (λ on. ap MaybePiecewiseRate.Present (fields.rate_read s x.set d x.place on ∙ rw at_rate_lem)))
 
         splice_by : cond (extended s "seamless_splice_flag") (MaybeSeamlessSplice.Present (read s "splice_type") (dts_next_au s)) MaybeSeamlessSplice.Absent
             ≡ cond (eqb (g / 32 % 2) 1)
@@ -287,10 +287,10 @@ module _ (s : List ℕ) (h : Bytes s) where
             rw (extended_is "seamless_splice_flag")
             (same_choice (is_set s "seamless_splice_flag") (eqb (g / 32 % 2) 1) _ _ _ splice_on
             (λ on. rw (
-              fields.splice-type s x.set d x.place on,
-              fields.dts-high s x.set d x.place on,
-              fields.dts-middle s x.set d x.place on,
-              fields.dts-low s x.set d x.place on,
+              fields.splice_type s x.set d x.place on,
+              fields.dts_high s x.set d x.place on,
+              fields.dts_middle s x.set d x.place on,
+              fields.dts_low s x.set d x.place on,
               at_splice_lem,
             )))
 
@@ -319,15 +319,15 @@ module _ (s : List ℕ) (h : Bytes s) where
       → p.opcr ≤ 8 → p.splice_countdown ≤ 14 → p.private_length ≤ 15 → p.extension ≤ 271 → Placed s p
   placed f k p e1 e2 e3 e4 l1 l2 l3 l4 =
       let long = has_flags_lem f k in
-      let a1 : fields.atOpcr s long h ≡ p.opcr = rw (pcr_on f k) (sym e1) in
-      let a2 : fields.atCountdown s long h ≡ p.splice_countdown = rw (a1, opcr_on f k) (sym e2) in
-      let a3 : fields.atPrivate s long h ≡ p.private_length = rw (a2, countdown_on f k) (sym e3) in
-      let a4 : fields.atExtension s long h ≡ p.extension = rw (a3, private_on f k) (sym e4) in
+      let a1 : fields.at_opcr s long h ≡ p.opcr = rw (pcr_on f k) (sym e1) in
+      let a2 : fields.at_countdown s long h ≡ p.splice_countdown = rw (a1, opcr_on f k) (sym e2) in
+      let a3 : fields.at_private s long h ≡ p.private_length = rw (a2, countdown_on f k) (sym e3) in
+      let a4 : fields.at_extension s long h ≡ p.extension = rw (a3, private_on f k) (sym e4) in
       record {
-        opcr = λ on. fields.at-opcr s long h on ∙ rw a1;
-        splice = λ on. fields.at-countdown s long h on ∙ rw a2;
-        private = λ on. fields.at-private s long h on ∙ rw a3;
-        extension = λ on. fields.at-extension s long h on ∙ rw a4;
+        opcr = λ on. fields.at_opcr_lem s long h on ∙ rw a1;
+        splice = λ on. fields.at_countdown_lem s long h on ∙ rw a2;
+        private = λ on. fields.at_private_lem s long h on ∙ rw a3;
+        extension = λ on. fields.at_extension_lem s long h on ∙ rw a4;
         opcr_near = l1;
         splice_near = l2;
         private_near = l3;
@@ -344,7 +344,7 @@ module _ (s : List ℕ) (h : Bytes s) where
   unfolding room_of data_room
   pcr_room f k z l =
       wants_by (length s) (place s "program_clock_reference_base") 2 6 6 (is_set s "PCR_flag") (is_set s "PCR_flag") _ _ refl
-      (λ on. byte_of (offset table_2_6 s "program_clock_reference_base") 2 (fields.at-pcr s (has_flags_lem f k) h on)) (λ on. refl)
+      (λ on. byte_of (offset table_2_6 s "program_clock_reference_base") 2 (fields.at_pcr s (has_flags_lem f k) h on)) (λ on. refl)
       (no_wants (length s) _ 6 _ _ (opcr_on f k ∙ ne_eqb (f / 8 % 2) 1 (λ e. omega arith))
       ∙ (no_wants (length s) _ 1 _ _ (countdown_on f k ∙ ne_eqb (f / 4 % 2) 1 (λ e. omega arith))
       ∙ (no_wants (length s) _ 1 _ _ none ∙ (no_wants (length s) _ _ _ _ none ∙ no_extension_room (extension_on f k ∙ ne_eqb (f % 2) 1 (λ e. omega arith))))))
@@ -359,7 +359,7 @@ module _ (s : List ℕ) (h : Bytes s) where
 
   -- the length byte
   length_is : read s "adaptation_field_length" ≡ get_or s 0 0
-  length_is = laws.adaptation-field-length s ∙ byte s 0 (h 0)
+  length_is = laws.adaptation_field_length s ∙ byte s 0 (h 0)
 
   -- a field of length 0 has no flags
   module _ (z : get_or s 0 0 ≡ 0) where
@@ -373,7 +373,7 @@ module _ (s : List ℕ) (h : Bytes s) where
     unfolding field_room
     empty_field_room =
         no_wants (length s) 0 2 (ltb 0 (read s "adaptation_field_length")) (room_of s) short
-        ∙ no_room (fields.no-pcr s short) (fields.no-opcr s short) (fields.no-splicing s short) (fields.no-private s short) (fields.no-extension s short)
+        ∙ no_room (fields.no_pcr s short) (fields.no_opcr s short) (fields.no_splicing s short) (fields.no_private s short) (fields.no_extension s short)
 
     pub empty_field : adaptation_field_of s
         ≡ record {
@@ -391,14 +391,14 @@ module _ (s : List ℕ) (h : Bytes s) where
     empty_field =
         rw (
           zero_length,
-          fields.no-discontinuity s short,
-          fields.no-random-access s short,
-          fields.no-priority s short,
-          fields.no-pcr s short,
-          fields.no-opcr s short,
-          fields.no-splicing s short,
-          fields.no-private s short,
-          fields.no-extension s short,
+          fields.no_discontinuity s short,
+          fields.no_random_access s short,
+          fields.no_priority s short,
+          fields.no_pcr s short,
+          fields.no_opcr s short,
+          fields.no_splicing s short,
+          fields.no_private s short,
+          fields.no_extension s short,
         )
 
   module _ (some : 0 < get_or s 0 0) where

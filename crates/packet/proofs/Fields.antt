@@ -43,32 +43,32 @@ module _ (s : List ℕ) where
   -- the flags, by byte 1; none in a field of length 0
   flag_bit : (a : ℕ) {v : ℕ} → v ≡ cond (has_flags (field table_2_6 s)) (bits s (8 + a) 1) 0 → has_flags (field table_2_6 s) ≡ true → a < 8
       → eqb v 1 ≡ eqb (get_or s 1 0 / 2 ^ (7 - a) % 2) 1
-  flag_bit a e h l = ap (λ (x : ℕ). eqb x 1) (laws.flag-byte s a e h l)
+  flag_bit a e h l = ap (λ (x : ℕ). eqb x 1) (laws.flag_byte s a e h l)
 
   module _ (long : has_flags (field table_2_6 s) ≡ true) where
     pub discontinuity_flag : is_set s "discontinuity_indicator" ≡ eqb (get_or s 1 0 / 128 % 2) 1
-    discontinuity_flag = flag_bit 0 (laws.discontinuity-indicator s) long (omega arith)
+    discontinuity_flag = flag_bit 0 (laws.discontinuity_indicator s) long (omega arith)
 
     pub random_access_flag : is_set s "random_access_indicator" ≡ eqb (get_or s 1 0 / 64 % 2) 1
-    random_access_flag = flag_bit 1 (laws.random-access-indicator s) long (omega arith)
+    random_access_flag = flag_bit 1 (laws.random_access_indicator s) long (omega arith)
 
     pub priority_flag : is_set s "elementary_stream_priority_indicator" ≡ eqb (get_or s 1 0 / 32 % 2) 1
-    priority_flag = flag_bit 2 (laws.elementary-stream-priority-indicator s) long (omega arith)
+    priority_flag = flag_bit 2 (laws.elementary_stream_priority_indicator s) long (omega arith)
 
     pub pcr_flag : is_set s "PCR_flag" ≡ eqb (get_or s 1 0 / 16 % 2) 1
-    pcr_flag = flag_bit 3 (laws.pcr-flag s) long (omega arith)
+    pcr_flag = flag_bit 3 (laws.pcr_flag s) long (omega arith)
 
     pub opcr_flag : is_set s "OPCR_flag" ≡ eqb (get_or s 1 0 / 8 % 2) 1
-    opcr_flag = flag_bit 4 (laws.opcr-flag s) long (omega arith)
+    opcr_flag = flag_bit 4 (laws.opcr_flag s) long (omega arith)
 
     pub splicing_flag : is_set s "splicing_point_flag" ≡ eqb (get_or s 1 0 / 4 % 2) 1
-    splicing_flag = flag_bit 5 (laws.splicing-point-flag s) long (omega arith)
+    splicing_flag = flag_bit 5 (laws.splicing_point_flag s) long (omega arith)
 
     pub private_flag : is_set s "transport_private_data_flag" ≡ eqb (get_or s 1 0 / 2 % 2) 1
-    private_flag = flag_bit 6 (laws.transport-private-data-flag s) long (omega arith)
+    private_flag = flag_bit 6 (laws.transport_private_data_flag s) long (omega arith)
 
     pub extension_flag_lem : is_set s "adaptation_field_extension_flag" ≡ eqb (get_or s 1 0 % 2) 1
-    extension_flag_lem = flag_bit 7 (laws.adaptation-field-extension-flag s) long (omega arith) ∙ rw (div-one (get_or s 1 0))
+    extension_flag_lem = flag_bit 7 (laws.adaptation_field_extension_flag s) long (omega arith) ∙ rw (div-one (get_or s 1 0))
 
   -- in a field of length 0 no flag is set
   module _ (short : has_flags (field table_2_6 s) ≡ false) where
@@ -76,81 +76,81 @@ module _ (s : List ℕ) where
     unset a v e = rw (e, short)
 
     pub no_discontinuity : is_set s "discontinuity_indicator" ≡ false
-    no_discontinuity = unset 8 (read s "discontinuity_indicator") (laws.discontinuity-indicator s)
+    no_discontinuity = unset 8 (read s "discontinuity_indicator") (laws.discontinuity_indicator s)
 
     pub no_random_access : is_set s "random_access_indicator" ≡ false
-    no_random_access = unset 9 (read s "random_access_indicator") (laws.random-access-indicator s)
+    no_random_access = unset 9 (read s "random_access_indicator") (laws.random_access_indicator s)
 
     pub no_priority : is_set s "elementary_stream_priority_indicator" ≡ false
-    no_priority = unset 10 (read s "elementary_stream_priority_indicator") (laws.elementary-stream-priority-indicator s)
+    no_priority = unset 10 (read s "elementary_stream_priority_indicator") (laws.elementary_stream_priority_indicator s)
 
     pub no_pcr : is_set s "PCR_flag" ≡ false
-    no_pcr = unset 11 (read s "PCR_flag") (laws.pcr-flag s)
+    no_pcr = unset 11 (read s "PCR_flag") (laws.pcr_flag s)
 
     pub no_opcr : is_set s "OPCR_flag" ≡ false
-    no_opcr = unset 12 (read s "OPCR_flag") (laws.opcr-flag s)
+    no_opcr = unset 12 (read s "OPCR_flag") (laws.opcr_flag s)
 
     pub no_splicing : is_set s "splicing_point_flag" ≡ false
-    no_splicing = unset 13 (read s "splicing_point_flag") (laws.splicing-point-flag s)
+    no_splicing = unset 13 (read s "splicing_point_flag") (laws.splicing_point_flag s)
 
     pub no_private : is_set s "transport_private_data_flag" ≡ false
-    no_private = unset 14 (read s "transport_private_data_flag") (laws.transport-private-data-flag s)
+    no_private = unset 14 (read s "transport_private_data_flag") (laws.transport_private_data_flag s)
 
     pub no_extension : is_set s "adaptation_field_extension_flag" ≡ false
-    no_extension = unset 15 (read s "adaptation_field_extension_flag") (laws.adaptation-field-extension-flag s)
+    no_extension = unset 15 (read s "adaptation_field_extension_flag") (laws.adaptation_field_extension_flag s)
 
   -- a field whose flag is set, by its offset
   module _ (on : is_set s "PCR_flag" ≡ true) where
-    pcr_offset : at "program_clock_reference_base" ≡ laws.pcrAt s
+    pcr_offset : at "program_clock_reference_base" ≡ laws.pcr_at s
     unfolding offset_from table_2_6
     pcr_offset = offset_from_lem table_2_6 s 9 "program_clock_reference_base" refl ∙ first _ _ _ (set_before 9 "PCR_flag" refl on)
 
     pub pcr_base : read s "program_clock_reference_base" ≡ bits s (at "program_clock_reference_base") 33
-    pcr_base = laws.program-clock-reference-base s ∙ rw (on, pcr_offset)
+    pcr_base = laws.program_clock_reference_base s ∙ rw (on, pcr_offset)
 
     pub pcr_extension : read s "program_clock_reference_extension" ≡ bits s (at "program_clock_reference_base" + 39) 9
-    pcr_extension = laws.program-clock-reference-extension s ∙ rw (on, pcr_offset)
+    pcr_extension = laws.program_clock_reference_extension s ∙ rw (on, pcr_offset)
 
   module _ (on : is_set s "OPCR_flag" ≡ true) where
-    opcr_offset : at "original_program_clock_reference_base" ≡ laws.opcrAt s
+    opcr_offset : at "original_program_clock_reference_base" ≡ laws.opcr_at s
     unfolding offset_from table_2_6
     opcr_offset = offset_from_lem table_2_6 s 12 "original_program_clock_reference_base" refl ∙ first _ _ _ (set_before 12 "OPCR_flag" refl on)
 
     pub opcr_base : read s "original_program_clock_reference_base" ≡ bits s (at "original_program_clock_reference_base") 33
-    opcr_base = laws.original-program-clock-reference-base s ∙ rw (on, opcr_offset)
+    opcr_base = laws.original_program_clock_reference_base s ∙ rw (on, opcr_offset)
 
     pub opcr_extension : read s "original_program_clock_reference_extension" ≡ bits s (at "original_program_clock_reference_base" + 39) 9
-    opcr_extension = laws.original-program-clock-reference-extension s ∙ rw (on, opcr_offset)
+    opcr_extension = laws.original_program_clock_reference_extension s ∙ rw (on, opcr_offset)
 
   module _ (on : is_set s "splicing_point_flag" ≡ true) where
-    countdown_offset : at "splice_countdown" ≡ laws.spliceAt s
+    countdown_offset : at "splice_countdown" ≡ laws.splice_at s
     unfolding offset_from table_2_6
     countdown_offset = offset_from_lem table_2_6 s 15 "splice_countdown" refl ∙ first _ _ _ (set_before 15 "splicing_point_flag" refl on)
 
     pub countdown_read : read s "splice_countdown" ≡ bits s (at "splice_countdown") 8
-    countdown_read = laws.splice-countdown s ∙ rw (on, countdown_offset)
+    countdown_read = laws.splice_countdown s ∙ rw (on, countdown_offset)
 
   module _ (on : is_set s "transport_private_data_flag" ≡ true) where
-    private_offset : at "transport_private_data_length" ≡ laws.privateAt s
+    private_offset : at "transport_private_data_length" ≡ laws.private_at s
     unfolding offset_from table_2_6
     private_offset = offset_from_lem table_2_6 s 16 "transport_private_data_length" refl ∙ first _ _ _ (set_before 16 "transport_private_data_flag" refl on)
 
     pub private_length : read s "transport_private_data_length" ≡ bits s (at "transport_private_data_length") 8
-    private_length = laws.transport-private-data-length s ∙ rw (on, private_offset)
+    private_length = laws.transport_private_data_length s ∙ rw (on, private_offset)
 
     -- the private data follow their length
     pub private_bytes : at "private_data_byte" ≡ at "transport_private_data_length" + 8
-    private_bytes = laws.private-data-place s on ∙ rw private_offset
+    private_bytes = laws.private_data_place s on ∙ rw private_offset
 
   -- the extension that begins at byte d
   module _ (on : is_set s "adaptation_field_extension_flag" ≡ true) (d : ℕ) (begins : at "adaptation_field_extension_length" ≡ 8 * d) where
-    extension_offset : laws.extensionAt s ≡ 8 * d
+    extension_offset : laws.extension_at s ≡ 8 * d
     unfolding offset_from table_2_6
     extension_offset =
         sym (offset_from_lem table_2_6 s 18 "adaptation_field_extension_length" refl ∙ first _ _ _ (set_before 18 "adaptation_field_extension_flag" refl on)) ∙ begins
 
     pub extension_length : read s "adaptation_field_extension_length" ≡ bits s (8 * d) 8
-    extension_length = laws.adaptation-field-extension-length s ∙ rw (on, extension_offset)
+    extension_length = laws.adaptation_field_extension_length s ∙ rw (on, extension_offset)
 
     pub ltw_flag_offset : at "ltw_flag" ≡ 8 * d + 8
     unfolding offset_from table_2_6
@@ -159,13 +159,13 @@ module _ (s : List ℕ) where
         ∙ ap (λ (o : ℕ). o + 8) extension_offset
 
     pub ltw_flag : read s "ltw_flag" ≡ bits s (8 * d + 8) 1
-    ltw_flag = laws.ltw-flag s ∙ rw (on, extension_offset)
+    ltw_flag = laws.ltw_flag s ∙ rw (on, extension_offset)
 
     pub rate_flag : read s "piecewise_rate_flag" ≡ bits s (8 * d + 9) 1
-    rate_flag = laws.piecewise-rate-flag s ∙ rw (on, extension_offset)
+    rate_flag = laws.piecewise_rate_flag s ∙ rw (on, extension_offset)
 
     pub splice_flag : read s "seamless_splice_flag" ≡ bits s (8 * d + 10) 1
-    splice_flag = laws.seamless-splice-flag s ∙ rw (on, extension_offset)
+    splice_flag = laws.seamless_splice_flag s ∙ rw (on, extension_offset)
 
     -- ltw, piecewise rate and seamless splice follow its byte of flags
     abbrev pub at_rate : ℕ
@@ -174,14 +174,14 @@ module _ (s : List ℕ) where
     abbrev pub at_splice : ℕ
     at_splice = cond (is_set s "piecewise_rate_flag") (at_rate + 3) at_rate
 
-    ltw_place : laws.ltwAt s ≡ 8 * (d + 2)
-    ltw_place = laws.ltw-place s ∙ rw (on, extension_offset) (omega arith)
+    ltw_place : laws.ltw_at s ≡ 8 * (d + 2)
+    ltw_place = laws.ltw_place s ∙ rw (on, extension_offset) (omega arith)
 
-    rate_place : laws.rateAt s ≡ 8 * at_rate
-    rate_place = laws.rate-place s ∙ rw on (scaled (is_set s "ltw_flag") (laws.ltwAt s) 16 (d + 2) 2 ltw_place refl)
+    rate_place : laws.rate_at s ≡ 8 * at_rate
+    rate_place = laws.rate_place s ∙ rw on (scaled (is_set s "ltw_flag") (laws.ltw_at s) 16 (d + 2) 2 ltw_place refl)
 
-    splice_place : laws.seamlessAt s ≡ 8 * at_splice
-    splice_place = laws.seamless-place s ∙ rw on (scaled (is_set s "piecewise_rate_flag") (laws.rateAt s) 24 at_rate 3 rate_place refl)
+    splice_place : laws.seamless_at s ≡ 8 * at_splice
+    splice_place = laws.seamless_place s ∙ rw on (scaled (is_set s "piecewise_rate_flag") (laws.rate_at s) 24 at_rate 3 rate_place refl)
 
     module _ (f : is_set s "ltw_flag" ≡ true) where
       pub ltw_offset : at "ltw_valid_flag" ≡ 8 * (d + 2)
@@ -191,10 +191,10 @@ module _ (s : List ℕ) where
           ∙ first _ _ _ (ap₂ ◌&&◌ (set_before 23 "adaptation_field_extension_flag" refl on) (set_before 23 "ltw_flag" refl f)) ∙ ltw_place
 
       pub ltw_valid : read s "ltw_valid_flag" ≡ bits s (8 * (d + 2)) 1
-      ltw_valid = laws.ltw-valid-flag s ∙ rw (on, f, ltw_place)
+      ltw_valid = laws.ltw_valid_flag s ∙ rw (on, f, ltw_place)
 
       pub ltw_read : read s "ltw_offset" ≡ bits s (8 * (d + 2) + 1) 15
-      ltw_read = laws.ltw-offset s ∙ rw (on, f, ltw_place)
+      ltw_read = laws.ltw_offset s ∙ rw (on, f, ltw_place)
 
     module _ (f : is_set s "piecewise_rate_flag" ≡ true) where
       pub rate_offset : at "piecewise_rate" ≡ 8 * at_rate + 2
@@ -205,7 +205,7 @@ module _ (s : List ℕ) where
           ∙ ap (λ (o : ℕ). o + 2) rate_place
 
       pub rate_read : read s "piecewise_rate" ≡ bits s (8 * at_rate + 2) 22
-      rate_read = laws.piecewise-rate s ∙ rw (on, f, rate_place)
+      rate_read = laws.piecewise_rate s ∙ rw (on, f, rate_place)
 
     module _ (f : is_set s "seamless_splice_flag" ≡ true) where
       pub splice_offset : at "splice_type" ≡ 8 * at_splice
@@ -216,16 +216,16 @@ module _ (s : List ℕ) where
           ∙ splice_place
 
       pub splice_type : read s "splice_type" ≡ bits s (8 * at_splice) 4
-      splice_type = laws.splice-type s ∙ rw (on, f, splice_place)
+      splice_type = laws.splice_type s ∙ rw (on, f, splice_place)
 
       pub dts_high : read s "DTS_next_AU[32..30]" ≡ bits s (8 * at_splice + 4) 3
-      dts_high = laws.dts-next-au-high s ∙ rw (on, f, splice_place)
+      dts_high = laws.dts_next_au_high s ∙ rw (on, f, splice_place)
 
       pub dts_middle : read s "DTS_next_AU[29..15]" ≡ bits s (8 * at_splice + 8) 15
-      dts_middle = laws.dts-next-au-middle s ∙ rw (on, f, splice_place)
+      dts_middle = laws.dts_next_au_middle s ∙ rw (on, f, splice_place)
 
       pub dts_low : read s "DTS_next_AU[14..0]" ≡ bits s (8 * at_splice + 24) 15
-      dts_low = laws.dts-next-au-low s ∙ rw (on, f, splice_place)
+      dts_low = laws.dts_next_au_low s ∙ rw (on, f, splice_place)
 
   -- where the optional fields begin: each behind the one before it
   module _ (long : has_flags (field table_2_6 s) ≡ true) (h : Bytes s) where
@@ -241,30 +241,30 @@ module _ (s : List ℕ) where
     abbrev pub at_extension : ℕ
     at_extension = cond (is_set s "transport_private_data_flag") (at_private + (1 + get_or s at_private 0)) at_private
 
-    pcr_place : laws.pcrAt s ≡ 8 * 2
-    pcr_place = laws.pcr-place s ∙ rw long
+    pcr_place : laws.pcr_at s ≡ 8 * 2
+    pcr_place = laws.pcr_place s ∙ rw long
 
-    opcr_place : laws.opcrAt s ≡ 8 * at_opcr
-    opcr_place = laws.opcr-place s ∙ scaled (is_set s "PCR_flag") (laws.pcrAt s) 48 2 6 pcr_place refl
+    opcr_place : laws.opcr_at s ≡ 8 * at_opcr
+    opcr_place = laws.opcr_place s ∙ scaled (is_set s "PCR_flag") (laws.pcr_at s) 48 2 6 pcr_place refl
 
-    countdown_place : laws.spliceAt s ≡ 8 * at_countdown
-    countdown_place = laws.splice-place s ∙ scaled (is_set s "OPCR_flag") (laws.opcrAt s) 48 at_opcr 6 opcr_place refl
+    countdown_place : laws.splice_at s ≡ 8 * at_countdown
+    countdown_place = laws.splice_place s ∙ scaled (is_set s "OPCR_flag") (laws.opcr_at s) 48 at_opcr 6 opcr_place refl
 
-    private_place : laws.privateAt s ≡ 8 * at_private
-    private_place = laws.private-place s ∙ scaled (is_set s "splicing_point_flag") (laws.spliceAt s) 8 at_countdown 1 countdown_place refl
+    private_place : laws.private_at s ≡ 8 * at_private
+    private_place = laws.private_place s ∙ scaled (is_set s "splicing_point_flag") (laws.splice_at s) 8 at_countdown 1 countdown_place refl
 
     private_count : is_set s "transport_private_data_flag" ≡ true → read s "transport_private_data_length" ≡ get_or s at_private 0
-    private_count on = laws.transport-private-data-length s ∙ rw (on, private_place) (byte s at_private (h at_private))
+    private_count on = laws.transport_private_data_length s ∙ rw (on, private_place) (byte s at_private (h at_private))
 
-    extension_place : laws.extensionAt s ≡ 8 * at_extension
-    extension_place = laws.extension-place s ∙ go (is_set s "transport_private_data_flag") refl
+    extension_place : laws.extension_at s ≡ 8 * at_extension
+    extension_place = laws.extension_place s ∙ go (is_set s "transport_private_data_flag") refl
       where
         go : (t : Bool) → is_set s "transport_private_data_flag" ≡ t
-            → cond t (laws.privateAt s + 8 * (1 + read s "transport_private_data_length")) (laws.privateAt s)
+            → cond t (laws.private_at s + 8 * (1 + read s "transport_private_data_length")) (laws.private_at s)
             ≡ 8 * cond t (at_private + (1 + get_or s at_private 0)) at_private
         go true e =
             rw (private_count e)
-            (scaled true (laws.privateAt s) (8 * (1 + get_or s at_private 0)) at_private (1 + get_or s at_private 0) private_place refl)
+            (scaled true (laws.private_at s) (8 * (1 + get_or s at_private 0)) at_private (1 + get_or s at_private 0) private_place refl)
         go false e = private_place
 
     pub at_pcr : is_set s "PCR_flag" ≡ true → at "program_clock_reference_base" ≡ 8 * 2

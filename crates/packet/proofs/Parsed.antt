@@ -98,16 +98,16 @@ module _ (raw : List ℕ) where
   pcr_small : Small (pcr_of raw)
   pcr_small =
       record {
-        base = small (is_set raw "PCR_flag") _ _ (2 ^ 33) (laws.program-clock-reference-base raw) (bound raw (laws.pcrAt raw) 33);
-        extension = small (is_set raw "PCR_flag") _ _ 512 (laws.program-clock-reference-extension raw) (bound raw (laws.pcrAt raw + 39) 9);
+        base = small (is_set raw "PCR_flag") _ _ (2 ^ 33) (laws.program_clock_reference_base raw) (bound raw (laws.pcr_at raw) 33);
+        extension = small (is_set raw "PCR_flag") _ _ 512 (laws.program_clock_reference_extension raw) (bound raw (laws.pcr_at raw + 39) 9);
       }
 
   opcr_small : Small (opcr_of raw)
   opcr_small =
       record {
-        base = small (is_set raw "OPCR_flag") _ _ (2 ^ 33) (laws.original-program-clock-reference-base raw) (bound raw (laws.opcrAt raw) 33);
+        base = small (is_set raw "OPCR_flag") _ _ (2 ^ 33) (laws.original_program_clock_reference_base raw) (bound raw (laws.opcr_at raw) 33);
         extension =
-            small (is_set raw "OPCR_flag") _ _ 512 (laws.original-program-clock-reference-extension raw) (bound raw (laws.opcrAt raw + 39) 9);
+            small (is_set raw "OPCR_flag") _ _ 512 (laws.original_program_clock_reference_extension raw) (bound raw (laws.opcr_at raw + 39) 9);
       }
 
 -- a clock reference that is there

@@ -1,5 +1,7 @@
 // The 188-byte transport packet (H.222.0 2.4.3.2), its adaptation field (2.4.3.4) and the physical layouts of a recording.
 // Contracts cite the fields of tables 2-2 and 2-6 by name; only the code reads bytes.
+#![tactic(auto)]
+
 ghost use Rattle.std.specs.Prelude.{◌≡◌, cond, true, false, ◌&&◌, [], ◌+◌, ◌-◌, ◌*◌, ◌/◌, ◌%◌, ◌^◌, ◌≤◌, ◌<◌, min, eqb, ltb, leb, length, get_or, take, drop};
 ghost use Rattle.syntax.specs.Bits.{bits};
 ghost use Rattle.packet.specs.AdaptationField.{field_of, field_room, is_set, room_of, data_room, extension_room, extension_fields_room, adaptation_field_of, extension_of, tcimsbf8};
@@ -8,50 +10,50 @@ ghost use Rattle.packet.specs.Packet.{parse_of, packet_of, payload_of, private_d
 ghost use Rattle.packet.specs.Layout.{on_grid, layout_of, window_of};
 
 // A clock reference: 33 bits of 90 kHz, and nine of 27 MHz.
-#[derive(Drop)]
+#[derive(Clone, Copy)]
 pub struct ClockReference {
     pub base: u64,
     pub extension: u16,
 }
 
-#[derive(Drop)]
+#[derive(Clone, Copy)]
 pub enum MaybeClockReference {
     Absent,
     Present(ClockReference),
 }
 
-#[derive(Drop)]
+#[derive(Clone, Copy)]
 pub enum MaybeSpliceCountdown {
     Absent,
     Present(i8),
 }
 
 // The private data bytes: where they begin in the adaptation field, counted from its length byte, and how many they are.
-#[derive(Drop)]
+#[derive(Clone, Copy)]
 pub enum MaybePrivateData {
     Absent,
     Present { start: usize, len: usize },
 }
 
-#[derive(Drop)]
+#[derive(Clone, Copy)]
 pub enum MaybeLtw {
     Absent,
     Present { valid: bool, offset: u16 },
 }
 
-#[derive(Drop)]
+#[derive(Clone, Copy)]
 pub enum MaybePiecewiseRate {
     Absent,
     Present(u32),
 }
 
-#[derive(Drop)]
+#[derive(Clone, Copy)]
 pub enum MaybeSeamlessSplice {
     Absent,
     Present { splice_type: u8, dts_next_au: u64 },
 }
 
-#[derive(Drop)]
+#[derive(Clone, Copy)]
 pub struct AdaptationFieldExtension {
     pub length: u8,
     pub ltw: MaybeLtw,
@@ -59,14 +61,14 @@ pub struct AdaptationFieldExtension {
     pub seamless_splice: MaybeSeamlessSplice,
 }
 
-#[derive(Drop)]
+#[derive(Clone, Copy)]
 pub enum MaybeExtension {
     Absent,
     Present(AdaptationFieldExtension),
 }
 
 // An optional part is present exactly if its flag is set.
-#[derive(Drop)]
+#[derive(Clone, Copy)]
 pub struct AdaptationField {
     pub length: u8,
     pub discontinuity_indicator: bool,
@@ -79,13 +81,13 @@ pub struct AdaptationField {
     pub adaptation_field_extension: MaybeExtension,
 }
 
-#[derive(Drop)]
+#[derive(Clone, Copy)]
 pub enum MaybeAdaptationField {
     Absent,
     Present(AdaptationField),
 }
 
-#[derive(Drop)]
+#[derive(Clone, Copy)]
 pub struct TsPacket {
     pub pid: u16,
     pub payload_unit_start: bool,
@@ -98,7 +100,7 @@ pub struct TsPacket {
     pub payload_start: usize,
 }
 
-#[derive(Drop)]
+#[derive(Clone, Copy)]
 pub enum Parse {
     Packet(TsPacket),
     Truncated { have: usize, need: usize },
@@ -106,20 +108,20 @@ pub enum Parse {
 }
 
 // Whether the bytes that are there hold every field that is flagged.
-#[derive(Drop)]
+#[derive(Clone, Copy)]
 pub enum Room {
     Enough,
     Truncated { have: usize, need: usize },
 }
 
-#[derive(Drop)]
+#[derive(Clone, Copy)]
 pub enum AdaptationFieldParse {
     Field(AdaptationField),
     Truncated { have: usize, need: usize },
 }
 
 // Where the optional fields stand in an adaptation field, or would.
-#[derive(Drop)]
+#[derive(Clone, Copy)]
 struct Places {
     opcr: usize,
     splice_countdown: usize,
@@ -679,7 +681,7 @@ pub fn private_data(bytes: &[u8], start: usize, len: usize) -> &[u8]
     part(bytes, 4 + start, len)
 }
 
-#[derive(Drop)]
+#[derive(Clone, Copy)]
 pub struct TsPacketLayout {
     pub packet_size: usize,
     pub sync_offset: usize,
@@ -702,7 +704,7 @@ impl TsPacketLayout {
     };
 }
 
-#[derive(Drop)]
+#[derive(Clone, Copy)]
 pub enum Detected {
     Found(TsPacketLayout),
     Nothing,

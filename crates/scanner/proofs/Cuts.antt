@@ -15,7 +15,7 @@ use Rattle.syntax.specs.TimeStamp.{timestamp}
 use Rattle.syntax.specs.Pes.{table_2_21, pts, dts}
 use Rattle.syntax.proofs.Bits.{within}
 use Rattle.syntax.proofs.TimeStamp.{timestamp_five}
-use Rattle.syntax.proofs.Pes.{places, stream_id, pts_dts_flags, pes_header_data_length, pts_10, dts_11}
+use Rattle.syntax.proofs.Pes.{places, stream_id, pts_dts_flags as flags_read, pes_header_data_length, pts_10, dts_11}
 use Rattle.pes.specs.StreamId.{has_optional_header}
 use Rattle.scanner.specs.declared.DecodeTs.{DecodeTs}
 use Rattle.scanner.specs.Unit.{optional_header, pts_dts_flags, header_data_length, stamp_bytes, stamp_end_by, content_begin_by, decode_ts_by, stamp_end, content_begin, stamp_of}
@@ -74,7 +74,7 @@ module _ (u : List ℕ) where
   optional_is h = ap has_optional_header (sym (stream_id u h))
 
   pub flags_is : get_or u 7 0 < 256 → get_or u 7 0 / 64 ≡ pts_dts_flags u
-  flags_is h = sym (pts_dts_flags u h)
+  flags_is h = sym (flags_read u h)
 
   pub length_is : get_or u 8 0 < 256 → get_or u 8 0 ≡ header_data_length u
   length_is h = sym (pes_header_data_length u h)

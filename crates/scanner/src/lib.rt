@@ -1,5 +1,7 @@
 // The PES scanner: which bytes of a stream's payloads are PES header and which are content, and the time stamp of each unit.
 // The Rust's `PesScanner` by value; a payload gives at most three runs, and no loop goes over its bytes.
+#![tactic(auto)]
+
 ghost use Rattle.std.specs.Prelude.{◌≡◌, false, [], ◌++◌, ◌+◌, ◌-◌, ◌<◌, ◌≤◌, min};
 ghost use Rattle.scanner.specs.Unit.{stamp_bytes, stamp_end_by, content_begin_by, cut, unit};
 ghost use Rattle.syntax.specs.TimeStamp.{timestamp};
@@ -7,7 +9,7 @@ ghost use Rattle.scanner.specs.Joined.{byte_at, stamp_at, listed, decode_ts_in, 
 ghost use Rattle.scanner.specs.State.{header_limit, header_of, idle, in_content, in_header, only_body, unfed_runs, unit_with, open_of, fed_of};
 
 // The decode time that a header announces: 33 bits at 90 kHz, the DTS where it is coded, else the PTS.
-#[derive(Drop)]
+#[derive(Clone, Copy)]
 pub enum DecodeTs {
     Absent,
     At(u64),
@@ -15,7 +17,7 @@ pub enum DecodeTs {
 
 // The runs of a payload by their lengths, in its order: the header up to its stamp's end, with the stamp; the rest of the header;
 // content. A run of no bytes is none.
-#[derive(Drop)]
+#[derive(Clone, Copy)]
 pub struct Runs {
     pub head: usize,
     pub decode_ts: DecodeTs,
@@ -23,7 +25,7 @@ pub struct Runs {
     pub body: usize,
 }
 
-#[derive(Drop)]
+#[derive(Clone, Copy)]
 pub struct StampBytes {
     pub b0: u8,
     pub b1: u8,
@@ -33,7 +35,7 @@ pub struct StampBytes {
 }
 
 // Bytes 3, 7, 8, 9 to 13 and 14 to 18 of a unit; 0 where one has not come.
-#[derive(Drop)]
+#[derive(Clone, Copy)]
 pub struct PesHeader {
     pub stream_id: u8,
     pub flags: u8,
@@ -43,7 +45,7 @@ pub struct PesHeader {
 }
 
 // The open unit: its count of bytes, HEADER_LIMIT once its content has begun, and its header. 16 bytes without padding.
-#[derive(Drop)]
+#[derive(Clone, Copy)]
 pub struct PesScanner {
     pub count: u16,
     pub started: bool,
@@ -51,14 +53,14 @@ pub struct PesScanner {
 }
 
 // Where the run of a unit's stamp ends, where its content begins, and its stamp.
-#[derive(Drop)]
+#[derive(Clone, Copy)]
 struct UnitCuts {
     stamp_end: usize,
     content_begin: usize,
     stamp: DecodeTs,
 }
 
-#[derive(Drop)]
+#[derive(Clone, Copy)]
 pub struct Fed {
     pub runs: Runs,
     pub scanner: PesScanner,

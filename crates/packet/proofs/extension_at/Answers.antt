@@ -1,0 +1,22 @@
+-- `packet::extension_at` meets its contract. The extension by places, or the empty one of length 0. Assumes nothing.
+use Rattle.packet.proofs.Slices.{of_slice}
+use Rattle.packet.proofs.ByPlaces.{empty_extension, extension_by}
+use lib.ListN.{get_or}
+use Prim.Native.Nat.{◌<◌}
+use mathlib.Core.Path.{sym, ◌∙◌}
+use native.Mathlib.Omega.{arith}
+use Rattle.packet.proofs.extension_at.Goals as goal
+
+pub returns-then-length-eq0 : goal.returns-then-length-eq0
+returns-then-length-eq0 c =
+    let s = c.args.raw.now in
+    let h = of_slice s c.type_inv.raw in
+    sym (empty_extension s h c.args.at c.requires (sym c.byte_or_zero-length.ensures ∙ c.if-length-eq0.true))
+
+pub returns : goal.returns
+returns c =
+    let s = c.args.raw.now in
+    let at = c.args.at in
+    let h = of_slice s c.type_inv.raw in
+    let some : 0 < get_or s at 0 = omega (arith, c.byte_or_zero-length.ensures) in
+    rw (extension_by s h at c.requires some c.byte_or_zero-f.result c.byte_or_zero-f.ensures c.past-rate.result c.past-splice.result c.past-rate.ensures.0 c.past-splice.ensures.0, ← c.ltw_field.ensures, ← c.rate_field.ensures, ← c.splice_field.ensures, ← c.byte_or_zero-length.ensures)

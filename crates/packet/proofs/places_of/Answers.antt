@@ -1,0 +1,12 @@
+-- `packet::places_of` meets its contract. Each place follows from the one before it. Assumes nothing.
+use Rattle.packet.proofs.Slices.{of_slice}
+use Rattle.packet.proofs.ByPlaces.{placed}
+use mathlib.Core.Path.{◌∙◌}
+use native.Mathlib.Omega.{arith}
+use Rattle.packet.proofs.places_of.Goals as goal
+
+pub returns : goal.returns
+returns c =
+    let s = c.args.raw.now in
+    let h = of_slice s c.type_inv.raw in
+    placed s h c.args.f c.requires _ c.past-opcr.ensures.0 c.past-splice_countdown.ensures.0 c.past-private_length.ensures.0 (c.past-extension.ensures.0 ∙ rw c.length_at-n.ensures.0) c.past-opcr.ensures.1 (omega (arith, c.past-opcr.ensures.1, c.past-splice_countdown.ensures.1)) (omega (arith, c.past-opcr.ensures.1, c.past-splice_countdown.ensures.1, c.past-private_length.ensures.1)) (omega (arith, c.past-opcr.ensures.1, c.past-splice_countdown.ensures.1, c.past-private_length.ensures.1, c.length_at-n.ensures.1, c.past-extension.ensures.1))
