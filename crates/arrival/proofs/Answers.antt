@@ -45,7 +45,7 @@ module _ (pcrPid depth from : ℕ) (times : List Float) (places : List ℕ) (ps 
         let r = holds_room depth times from places room in
         let c = clock_counted in
         room_holds n passed.times from passed.places
-        (record { of_times = omega (arith, r.of_times, k.times-length, c.within_depth, c.one-fewer); of_places = omega (arith, r.of_places, k.places-length, c.within_depth, c.one-fewer) })
+        (record { of_times = omega (arith, r.of_times, k.times_length, c.within_depth, c.one_fewer); of_places = omega (arith, r.of_places, k.places_length, c.within_depth, c.one_fewer) })
 
     pub clock_bounded : 188 * length ps ≤ byte_limit → AllWithin (intervals_in passed.times from passed.places 0 n)
     clock_bounded l = rw clock_is at (clock_within pcrPid depth ps l)

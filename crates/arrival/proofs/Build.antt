@@ -12,7 +12,7 @@ use Rattle.arrival.specs.declared.Closed.{Closed}
 use Rattle.arrival.specs.declared.FirstRefusal.{FirstRefusal}
 use Rattle.arrival.specs.declared.ClockBuild.{ClockBuild}
 use Rattle.arrival.specs.declared.ClockAnswer.{ClockAnswer}
-use Rattle.arrival.specs.ArrivalClock.{Built, intervals, refused, anchor_at, interval_at, stepped, restarted, step_to, rate_to, close, and_then_lem, build_from, build}
+use Rattle.arrival.specs.ArrivalClock.{Built, intervals, refused, anchor_at, interval_at, stepped, restarted, step_to, rate_to, close, and_then, build_from, build}
 use Rattle.arrival.specs.Work.{holds, interval_in, intervals_in}
 use Rattle.arrival.specs.Pass.{no_sample, Building, store_times, store_places, counted_with, counted, first_refusal, closed_by, is_refused, in_range, take_sample, take_samples, answer_of, unless_refused, built_by, built_in}
 use Rattle.arrival.proofs.Cursors.{Room, holds_room, room_holds}
@@ -131,7 +131,7 @@ prepended_nil : (b : Built) → prepended [] b ≡ b
 prepended_nil (intervals js) = refl
 prepended_nil (refused r) = refl
 
-prepended_then : (is : List RateInterval) (i : RateInterval) (b : Built) → prepended (is ++ (i ∷ [])) b ≡ prepended is (and_then_lem i b)
+prepended_then : (is : List RateInterval) (i : RateInterval) (b : Built) → prepended (is ++ (i ∷ [])) b ≡ prepended is (and_then i b)
 prepended_then is i (intervals js) = ap intervals (append_assoc is (i ∷ []) js)
 prepended_then is i (refused r) = refl
 

@@ -149,4 +149,4 @@ module _ (times : List Float) (from : ℕ) (places : List ℕ) (n : ℕ) (room :
       let l : a.end ≤ never - 188 = omega (arith, s.end_is) in
       let f = found_on times from places (suc n) room (188 * (k + 1)) (omega arith) s.found in
       rw (le-leb a.end (never - 188) l, e)
-      (record { end_is = refl; found = f; t1_is = ap (λ (i : RateInterval). time_of i (188 * (k + 1))) (found_interval times from places (suc n) room f) }, s.t1-is)
+      (record { end_is = refl; found = f; t1_is = ap (λ (i : RateInterval). time_of i (188 * (k + 1))) (found_interval times from places (suc n) room f) }, s.t1_is)

@@ -1,6 +1,6 @@
 -- The time of every PTS and DTS is within bounds: the nearest epoch lies half a wrap below the reference at most, and less than
 -- half a wrap above it or, near 0, in the first wrap.
-use Rattle.std.proofs.Common.{◌≡◌, ℕ, ◌+◌, ◌-◌, ◌*◌, ◌/◌, ◌^◌, ◌<◌, ◌≤◌, Bool, true, false, cond, ◌&&◌, T, pos, negsuc, mul-le-mul_right, mul-pos, lt_of_not-le, zero-mul, le_of_mul-le-mul_right, arith}
+use Rattle.std.proofs.Common.{◌≡◌, ℕ, ◌+◌, ◌*◌, ◌/◌, ◌^◌, ◌<◌, ◌≤◌, Bool, true, false, cond, ◌&&◌, T, pos, negsuc, mul-le-mul_right, mul-pos, lt_of_not-le, zero-mul, le_of_mul-le-mul_right, arith}
 use native.Mathlib.Decide.{dec_le}
 use lib.Ieee.{Float, fin, binary64, of_bits, add, sub, div, le, lt, fits}
 use lib.Ieee.Fits.{add-fits}

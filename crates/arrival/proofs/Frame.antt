@@ -34,8 +34,8 @@ module _ (depth from : ℕ) where
   keeps_on : {t u v : List Float} {p q r : List ℕ} → Keeps t p u q → Keeps u q v r → Keeps t p v r
   keeps_on a b =
       record {
-        times_length = b.times-length ∙ a.times-length;
-        places_length = b.places-length ∙ a.places-length;
+        times_length = b.times_length ∙ a.times_length;
+        places_length = b.places_length ∙ a.places_length;
         before = b.before ∙ a.before;
         behind = b.behind ∙ a.behind;
         places_behind = b.places_behind ∙ a.places_behind;

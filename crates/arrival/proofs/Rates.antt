@@ -71,7 +71,7 @@ module _ (B d : ℕ) (short : B ≤ byte_limit) (some : 0 < d) (low : d < pcr_mo
     rate_in =
         let t = or_false (lt rate 1000f) (lt 1000000000f rate) passed in
         let a = nlt_in rate_finite (closed_in (plain 1000) 1000f (plain 1000) tt) t.0 in
-        let b = order.nlt→le 1000000000f rate tt (in_finite a) (order.to-not t.1) in
+        let b = order.nlt→le 1000000000f rate tt (in_finite a) (order.to_not t.1) in
         record { low_finite = tt; high_finite = tt; low = a.low; high = order.le_trans rate 1000000000f (plain 1000000000) (in_finite a) tt tt b tt }
 
     -- a step above the bound would have made a rate of 999 at most

@@ -17,7 +17,7 @@ use Rattle.arrival.specs.declared.RateInterval.{RateInterval}
 use Rattle.arrival.specs.declared.Sample.{Sample}
 use Rattle.arrival.specs.declared.Anchor.{Anchor}
 use Rattle.arrival.specs.declared.Closed.{Closed}
-use Rattle.arrival.specs.ArrivalClock.{float, anchor_at, interval_at, step_to, rate_to, stepped, restarted, close, Built, intervals, refused, and_then_lem, behind, build_from, build_all, build}
+use Rattle.arrival.specs.ArrivalClock.{float, anchor_at, interval_at, step_to, rate_to, stepped, restarted, close, Built, intervals, refused, and_then, behind, build_from, build_all, build}
 use Rattle.arrival.specs.Times.{advance_to, first, covering, time_of}
 use Rattle.arrival.specs.Samples.{field_on, seen_pcr, seen_in, samples_from, samples_of}
 use Rattle.arrival.specs.Bounds.{byte_limit, raw_limit, unit, units_of, arrival_limit, InOrder, IntervalWithin, AllWithin}
@@ -113,7 +113,7 @@ abbrev pub BuiltWithin : Built → Type 0
 BuiltWithin (intervals is) = AllWithin is
 BuiltWithin (refused r) = Unit {0}
 
-then_within : (i : RateInterval) (b : Built) → IntervalWithin i → BuiltWithin b → BuiltWithin (and_then_lem i b)
+then_within : (i : RateInterval) (b : Built) → IntervalWithin i → BuiltWithin b → BuiltWithin (and_then i b)
 then_within i (intervals is) w h = (w, h)
 then_within i (refused r) w h = tt
 
@@ -217,7 +217,7 @@ abbrev Counts : ℕ → Built → Type 0
 Counts n (intervals is) = length is ≡ n
 Counts n (refused r) = Unit {0}
 
-then_counts : (n : ℕ) (i : RateInterval) (b : Built) → Counts n b → Counts (suc n) (and_then_lem i b)
+then_counts : (n : ℕ) (i : RateInterval) (b : Built) → Counts n b → Counts (suc n) (and_then i b)
 then_counts n i (intervals is) e = ap suc e
 then_counts n i (refused r) e = tt
 

@@ -62,12 +62,12 @@ pub data Built : Type 0 where
   intervals : List RateInterval → Built
   refused : Refusal → Built
 
-abbrev pub and_then_lem : RateInterval → Built → Built
-and_then_lem i (intervals is) = intervals (i ∷ is)
-and_then_lem i (refused r) = refused r
+abbrev pub and_then : RateInterval → Built → Built
+and_then i (intervals is) = intervals (i ∷ is)
+and_then i (refused r) = refused r
 
 abbrev pub behind : Closed → (Anchor → Built) → Built
-behind (Closed.Closes i a) rest = and_then_lem i (rest a)
+behind (Closed.Closes i a) rest = and_then i (rest a)
 behind (Closed.Refuses r) rest = refused r
 
 -- the samples from number n on

@@ -10,7 +10,7 @@ use Rattle.arrival.specs.Times.{arrival_at, rate_at}
 -- accepted with a rate and the time of byte 386, or refused with a number and a place
 pub data Answer : Type 0 where
   accepted : Float → Float → Answer
-  refused_with_lem : ℕ → ℕ → Answer
+  refused_with : ℕ → ℕ → Answer
 
 pub record Row : Type 0 where
   pub step : ℕ
@@ -19,7 +19,7 @@ pub record Row : Type 0 where
 unfoldable pub clock_rows : List Row
 clock_rows =
     record { step = 3375000; answer = accepted (from_bits binary64 0x40a7_8000_0000_0000) (from_bits binary64 0x3fc0_0000_0000_0000) }
-    ∷ record { step = 27000000; answer = refused_with_lem 9 1 }
+    ∷ record { step = 27000000; answer = refused_with 9 1 }
     ∷ []
 
 abbrev pub two_samples : ℕ → List Sample
@@ -31,8 +31,8 @@ two_samples step =
 abbrev pub answers : Answer → Built → Bool
 answers (accepted rate time) (intervals is) = eq (rate_at is 386) rate && eq (arrival_at is 386) time
 answers (accepted rate time) (refused r) = false
-answers (refused_with_lem number place) (intervals is) = false
-answers (refused_with_lem number place) (refused r) = (code_of r).number == number && (code_of r).place == place
+answers (refused_with number place) (intervals is) = false
+answers (refused_with number place) (refused r) = (code_of r).number == number && (code_of r).place == place
 
 unfoldable pub all_hold : List Row → Bool
 all_hold [] = true

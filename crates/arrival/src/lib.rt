@@ -1,5 +1,7 @@
 // The arrival clock (H.222.0, 2.4.2.2): intervals of constant rate in lent work, the arrival time of a byte, and the time of a
 // PTS or DTS.
+#![tactic(auto)]
+
 ghost use Rattle.std.specs.Prelude.{◌≡◌, ◌+◌, ◌-◌, ◌*◌, ◌^◌, ◌<◌, length};
 ghost use Rattle.clock.specs.Pcr.{pcr_modulus};
 ghost use Rattle.arrival.specs.ArrivalClock.{seconds, anchor_at, step_to, interval_at, close};
@@ -13,7 +15,7 @@ use error::Refusal;
 use packet::{ClockReference, MaybeAdaptationField, MaybeClockReference, Parse};
 
 // A PCR on the PCR PID: its byte position, its ticks of 27 MHz, and whether a discontinuity is marked at it.
-#[derive(Drop)]
+#[derive(Clone, Copy)]
 pub struct Sample {
     pub position: u64,
     pub ticks: u64,
@@ -21,7 +23,7 @@ pub struct Sample {
 }
 
 // The last sample: its position, its PCR on the extended time line, its time, and the rate before it.
-#[derive(Drop)]
+#[derive(Clone, Copy)]
 pub struct Anchor {
     pub position: u64,
     pub extended: u64,
@@ -30,14 +32,14 @@ pub struct Anchor {
 }
 
 // What a sample gives: the interval that ends at it and the next anchor, or a refusal.
-#[derive(Drop)]
+#[derive(Clone, Copy)]
 pub enum Closed {
     Closes(RateInterval, Anchor),
     Refuses(Refusal),
 }
 
 // The first refusal, without its sample: with it the enum's padding would be copied for each sample, which costs 4 ns.
-#[derive(Drop)]
+#[derive(Clone, Copy)]
 pub enum FirstRefusal {
     Absent,
     DiscontinuityBeforeRate,
@@ -46,7 +48,7 @@ pub enum FirstRefusal {
 }
 
 // The clock built so far; its intervals are in lent work.
-#[derive(Drop)]
+#[derive(Clone, Copy)]
 pub struct ClockBuild {
     pub samples: usize,
     pub anchor: Anchor,
@@ -56,21 +58,21 @@ pub struct ClockBuild {
 }
 
 // The pass over the packets so far; the next packet begins at `start`.
-#[derive(Drop)]
+#[derive(Clone, Copy)]
 pub struct ClockPass {
     pub start: u64,
     pub pending_discontinuity: bool,
     pub build: ClockBuild,
 }
 
-#[derive(Drop)]
+#[derive(Clone, Copy)]
 pub enum ClockAnswer {
     Intervals(usize),
     Refused(Refusal),
 }
 
 // A stretch of constant transport rate.
-#[derive(Drop)]
+#[derive(Clone, Copy)]
 pub struct RateInterval {
     pub start_pos: u64,
     pub start_time: f64,
@@ -80,7 +82,7 @@ pub struct RateInterval {
 }
 
 // The interval that the cursor is at; `until` is where the next begins.
-#[derive(Drop)]
+#[derive(Clone, Copy)]
 pub struct Cursor {
     pub index: usize,
     pub until: u64,
@@ -88,7 +90,7 @@ pub struct Cursor {
 }
 
 // A packet arrives from t0 to t1; the cursor is at its end.
-#[derive(Drop)]
+#[derive(Clone, Copy)]
 pub struct PacketArrival {
     pub cursor: Cursor,
     pub end: u64,

@@ -40,21 +40,21 @@ module _ (y : TsPacketLayout) (l : List ℕ) (count pcrPid depth : ℕ) (times :
     shorter = rw (parses_length y l 0 count) short
 
     pub build_refused : {r : Refusal} → answer ≡ ClockAnswer.Refused r → build depth (samples_of pcrPid ps) ≡ refused r
-    build_refused e = answers.refused-is pcrPid depth from times places ps shallow room shorter (sym is.answer_is ∙ e)
+    build_refused e = answers.refused_is pcrPid depth from times places ps shallow room shorter (sym is.answer_is ∙ e)
 
     module _ (n : ℕ) (e : answer ≡ ClockAnswer.Intervals n) where
       pub build_intervals : build depth (samples_of pcrPid ps) ≡ intervals (intervals_in times' from places' 0 n)
       build_intervals =
-          rw (is.times_are, is.places_are) (answers.clock-is pcrPid depth from times places ps shallow room shorter n (sym is.answer_is ∙ e))
+          rw (is.times_are, is.places_are) (answers.clock_is pcrPid depth from times places ps shallow room shorter n (sym is.answer_is ∙ e))
 
       pub build_counted : Counted depth (length (samples_of pcrPid ps)) n
-      build_counted = answers.clock-counted pcrPid depth from times places ps shallow room shorter n (sym is.answer_is ∙ e)
+      build_counted = answers.clock_counted pcrPid depth from times places ps shallow room shorter n (sym is.answer_is ∙ e)
 
       pub build_room : holds n times' from places' ≡ true
       build_room =
-          rw (is.times_are, is.places_are) (answers.clock-room pcrPid depth from times places ps shallow room shorter n (sym is.answer_is ∙ e))
+          rw (is.times_are, is.places_are) (answers.clock_room pcrPid depth from times places ps shallow room shorter n (sym is.answer_is ∙ e))
 
       pub build_bounded : 188 * count ≤ byte_limit → AllWithin (intervals_in times' from places' 0 n)
       build_bounded limit =
           rw (is.times_are, is.places_are)
-          (answers.clock-bounded pcrPid depth from times places ps shallow room shorter n (sym is.answer_is ∙ e) (rw (parses_length y l 0 count) limit))
+          (answers.clock_bounded pcrPid depth from times places ps shallow room shorter n (sym is.answer_is ∙ e) (rw (parses_length y l 0 count) limit))

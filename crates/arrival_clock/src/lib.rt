@@ -1,4 +1,6 @@
 // Pass 1 of the replay: the arrival clock is built from the packets of a recording, in lent work.
+#![tactic(auto)]
+
 ghost use Rattle.std.specs.Prelude.{◌≡◌, false, ◌+◌, ◌-◌, ◌*◌, ◌/◌, ◌≤◌, min, max, length, take, drop};
 ghost use Rattle.packet.specs.declared.MaybeAdaptationField.{MaybeAdaptationField};
 ghost use Rattle.packet.specs.Packet.{parse_of};
