@@ -20,7 +20,7 @@ use Rattle.ieee.proofs.Order.{nle→lt, to_not}
 use Rattle.ieee.proofs.Whole.{add_is, is_in, of_int_is}
 use Rattle.branch.specs.CumulativeIn.{arrived_by, clamp, fraction, rest_at, settle, settled_at, total_of}
 use Rattle.branch.specs.declared.Run.{Run}
-use Rattle.bounds.specs.Runs.{InflowIn, RunIs, RunsWithin, TimeIn, a_run, no_runs_lem}
+use Rattle.bounds.specs.Runs.{InflowIn, RunIs, RunsWithin, TimeIn, a_run, no_runs}
 
 -- what has arrived by t, of runs and settled bytes; the part of a run that has
 abbrev pub arrived_of : List Run → Float → Float → Float
@@ -30,16 +30,16 @@ abbrev pub share : Run → Float → Float
 share r t = r.bytes ⊗ (fraction r t)
 
 pub within : {N : ℕ} {rs : List Run} {m : ℕ} → RunsWithin N rs m → m ≤ N
-within (no_runs_lem h) = h
+within (no_runs h) = h
 within {N} {rs} {m} (a_run k i l) = le_trans (le-add_right m k) (within l)
 
 -- more may come, and more has come
 pub runs_mono : {N N' : ℕ} {rs : List Run} {m : ℕ} → N ≤ N' → RunsWithin N rs m → RunsWithin N' rs m
-runs_mono h (no_runs_lem g) = no_runs_lem (le_trans g h)
+runs_mono h (no_runs g) = no_runs (le_trans g h)
 runs_mono h (a_run k q l) = a_run k q (runs_mono h l)
 
 pub runs_append : {N : ℕ} {r : Run} (k : ℕ) (rs : List Run) {m : ℕ} → RunsWithin N rs m → RunIs r k → RunsWithin (N + k) (rs ++ (r ∷ [])) m
-runs_append {N} k [] {m} (no_runs_lem g) q = a_run k q (no_runs_lem (add-le-add g (le_refl k)))
+runs_append {N} k [] {m} (no_runs g) q = a_run k q (no_runs (add-le-add g (le_refl k)))
 runs_append k (r ∷ rs) (a_run j p l) q = a_run j p (runs_append k rs l q)
 
 pub inflow_mono : {N N' : ℕ} {rs : List Run} {s : Float} → N ≤ N' → InflowIn N rs s → InflowIn N' rs s
@@ -102,7 +102,7 @@ total_by N t r rs x m false e h i j = simp e j
 
 pub totals : (N : ℕ) (t : Float) (rs : List Run) (x : Float) (m : ℕ) → N < 2 ^ 53 → RunsWithin N rs m → TimeIn t → In (minus 0) x (plain m) → In (minus 0) (total_of rs x t) (plain N)
 unfolding total_of
-totals N t [] x m h (no_runs_lem g) c i = widen_at 0 N i (omega arith) g
+totals N t [] x m h (no_runs g) c i = widen_at 0 N i (omega arith) g
 totals N t (r ∷ rs) x m h (a_run k q l) c i =
     total_by N t r rs x m (le t r.t0) refl (le_trans (le-add_right m k) (within l)) i
     (totals N t rs (x ⊕ (share r t)) (m + k) h l c (add_at binary64 (pos 0) tt i (share_in r k t q (small m k N h (within l)) c) (lit< tt) (lt_of_le_of_lt (within l) h)))

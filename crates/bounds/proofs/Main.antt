@@ -24,7 +24,7 @@ use Rattle.branch.specs.declared.AccessUnit.{AccessUnit}
 use Rattle.branch.specs.declared.Run.{Run}
 use Rattle.bounds.specs.Events.{EventsIn, delay_limit, missing_limit, no_events}
 use Rattle.bounds.specs.Main.{DrainedIn, MainBounded, SizeIn}
-use Rattle.bounds.specs.Runs.{InflowIn, RunIs, RunsWithin, TimeIn, a_run, byte_limit, no_runs_lem}
+use Rattle.bounds.specs.Runs.{InflowIn, RunIs, RunsWithin, TimeIn, a_run, byte_limit, no_runs}
 use Rattle.bounds.specs.Units.{UnitIs, Units, a_unit, no_units}
 use Rattle.bounds.proofs.Arrived.{inflow_append, settle_keeps, whole_add, within}
 use Rattle.bounds.proofs.Events.{age_in, delay_in, events_append, events_when, over_in, units_append, units_within}
@@ -43,7 +43,7 @@ new_main_lem =
     record {
       few = zero-le;
       units_few = zero-le;
-      inflow = record { count = 0; settled = plain_is 0; fit = tt; runs = no_runs_lem zero-le };
+      inflow = record { count = 0; settled = plain_is 0; fit = tt; runs = no_runs zero-le };
       removed = closed_in (minus 0) 0f (plain byte_limit) tt;
       whole = 0;
       required = plain_is 0;
@@ -191,7 +191,7 @@ record Total (N m0 : ℕ) (x : Float) : Type 0 where
 
 bytes_from_lem : (N m0 j : ℕ) (rs : List Run) (x : Float) → N ≤ 2 ^ 53 → RunsWithin N rs (m0 + j) → Is x j → Total N m0 (bytes_from rs x)
 unfolding bytes_from
-bytes_from_lem N m0 j [] x h (no_runs_lem g) i = record { count = j; is = i; within_all = g }
+bytes_from_lem N m0 j [] x h (no_runs g) i = record { count = j; is = i; within_all = g }
 bytes_from_lem N m0 j (r ∷ rs) x h (a_run k q l) i =
     bytes_from_lem N m0 (j + k) rs (x ⊕ r.bytes) h (subst (λ (y : ℕ). RunsWithin N rs y) (turn m0 j k) l) (whole_add x r.bytes j k (less m0 j k N (within l) h) i q.bytes)
   where

@@ -33,7 +33,7 @@ module _ (t t' : Float) (c : TimeIn t) (c' : TimeIn t') (g : T (le t t')) where
   rest_by r rs true e f k = simp (e, f e) k
   rest_by r rs false e f k = simp e
 
-  rest_rest : {N m : ℕ} (rs : List Run) → RunsWithin N rs m → rest_at (rest_at rs t) t' ≡ rest_at rs t'
+  rest_rest : {N : ℕ} (rs : List Run) {m : ℕ} → RunsWithin N rs m → rest_at (rest_at rs t) t' ≡ rest_at rs t'
   unfolding rest_at
   rest_rest [] l = refl
   rest_rest (r ∷ rs) (a_run k q l) = rest_by r rs (le r.t1 t) refl (later r k q) (rest_rest rs l)
@@ -44,7 +44,7 @@ module _ (t t' : Float) (c : TimeIn t) (c' : TimeIn t') (g : T (le t t')) where
   settled_by r rs s true e f k = simp (e, f e) k
   settled_by r rs s false e f k = simp e
 
-  settled_settled : {N m : ℕ} (rs : List Run) (s : Float) → RunsWithin N rs m → settled_at (rest_at rs t) (settled_at rs s t) t' ≡ settled_at rs s t'
+  settled_settled : {N : ℕ} (rs : List Run) (s : Float) {m : ℕ} → RunsWithin N rs m → settled_at (rest_at rs t) (settled_at rs s t) t' ≡ settled_at rs s t'
   unfolding rest_at settled_at
   settled_settled [] s l = refl
   settled_settled (r ∷ rs) s (a_run k q l) = settled_by r rs s (le r.t1 t) refl (later r k q) (settled_settled rs (s ⊕ r.bytes) l)

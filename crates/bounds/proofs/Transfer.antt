@@ -142,15 +142,15 @@ module _ (n e : ℕ) (f : Transfer) (size b : Float) (q : TransferIn n e f) (hn 
 
   sum_in : In zero_float sum (plain (2 ^ 35))
   unfolding le lt eq
-  sum_in = widen_high (plain (2 ^ 35)) the_sum.r-in tt
+  sum_in = widen_high (plain (2 ^ 35)) the_sum.r_in tt
 
   next_in_lem : In (minus (2 ^ 37)) (f.eb_in ⊕ (b ⊖ sum)) (plain (2 ^ 37))
   next_in_lem =
-      eb_next_in f.eb_in f.eb_removed size b sum 0 (place 0 1 f.transferred + e) (eb_held n e f q he) q.removed iz ib sum_in q.eb_fits q.removed_fits fz fb the_sum.r-fits
+      eb_next_in f.eb_in f.eb_removed size b sum 0 (place 0 1 f.transferred + e) (eb_held n e f q he) q.removed iz ib sum_in q.eb_fits q.removed_fits fz fb the_sum.r_fits
 
   next_high : T (le (f.eb_in ⊕ (b ⊖ sum)) (plain eb_in_limit))
   next_high =
-      eb_high f.eb_in f.eb_removed size b sum 0 (place 0 1 f.transferred + e) (eb_held n e f q he) q.removed iz ib sum_in q.eb_fits q.removed_fits fz fb the_sum.r-fits k
+      eb_high f.eb_in f.eb_removed size b sum 0 (place 0 1 f.transferred + e) (eb_held n e f q he) q.removed iz ib sum_in q.eb_fits q.removed_fits fz fb the_sum.r_fits k
       q.removed_high
 
   peak_in : In zero_float (max_of f.eb_peak ((f.eb_in ⊕ (b ⊖ sum)) ⊖ f.eb_removed)) (plain eb_peak_limit)
@@ -162,7 +162,7 @@ module _ (n e : ℕ) (f : Transfer) (size b : Float) (q : TransferIn n e f) (hn 
   eb_less : neg_units binary64 (f.eb_in ⊕ (b ⊖ sum)) ≤ (place 0 1 f.transferred + e + 1) * 2 ^ 1074 + pos_units binary64 (f.eb_in ⊕ (b ⊖ sum))
   eb_less =
       eb_low f.eb_in f.eb_removed size b sum (2 ^ 1073 + 2 ^ 1057) (place 0 1 f.transferred + e) (eb_held n e f q he) q.removed iz ib sum_in q.eb_fits q.removed_fits fz fb
-      the_sum.r-fits sum_size (lit≤ tt) q.eb_low
+      the_sum.r_fits sum_size (lit≤ tt) q.eb_low
 
   moved_keeps : (e' : ℕ) → place 0 1 f.transferred + e + 1 ≤ place 0 1 (f.transferred ⊕ b) + e' → TransferIn n e' (moved f b)
   unfolding moved eb_in_after

@@ -32,7 +32,7 @@ use Rattle.branch.specs.declared.Run.{Run}
 use Rattle.bounds.specs.Events.{EventsIn, UpTo, busy_limit, delay_limit, earliest_time, latest_time}
 use Rattle.bounds.specs.Main.{SizeIn}
 use Rattle.bounds.specs.Marks.{MarkIs, Marked, no_marks}
-use Rattle.bounds.specs.Runs.{RunIs, byte_limit, no_runs_lem}
+use Rattle.bounds.specs.Runs.{RunIs, byte_limit, no_runs}
 use Rattle.bounds.specs.Units.{UnitIs, no_units}
 use Rattle.bounds.specs.Video.{AdvancedIn, LeakIn, RatesIn, Running, Unstarted, VideoBounded, VideoIn, ahead_limit, drain_limit, eb_peak_limit, last_limit, leak_time, loop_limit, new_video, proc_limit, transfer_limit, turn_limit}
 use Rattle.bounds.proofs.Advance.{advance_keeps, calls_few}
@@ -78,7 +78,7 @@ new_video_lem =
       leak = inl
           (record {
             parts = record {
-              inflow = record { count = 0; settled = plain_is 0; fit = tt; runs = no_runs_lem zero-le };
+              inflow = record { count = 0; settled = plain_is 0; fit = tt; runs = no_runs zero-le };
               flow = record {
                 marks = no_marks;
                 few = zero-le;

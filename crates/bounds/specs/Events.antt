@@ -2,7 +2,6 @@
 use Rattle.std.specs.Prelude.{List, [], ◌∷◌, ◌*◌, ◌+◌, ◌^◌, ◌≤◌, ℕ, Float, length}
 use Rattle.ieee.specs.Interval.{In, minus, plain, zero_float}
 use Rattle.fifo.specs.Bounds.{peak_limit}
-use Rattle.branch.specs.MainBranch.{after}
 use Rattle.bounds.specs.Runs.{byte_limit, longest_window}
 use Rattle.events.specs.Event.{Event, delay, mb_busy, overflow, tb_busy, tb_overflow, underflow}
 

@@ -37,7 +37,7 @@ pub record RunIs (r : Run) (k : ℕ) : Type 0 where
 
 -- runs of whole bytes, which with m bytes before them are N at most
 pub data RunsWithin (N : ℕ) : List Run → ℕ → Type 0 where
-  no_runs_lem : {m : ℕ} → m ≤ N → RunsWithin N [] m
+  no_runs : {m : ℕ} → m ≤ N → RunsWithin N [] m
   a_run : {r : Run} {rs : List Run} {m : ℕ} (k : ℕ) → RunIs r k → RunsWithin N rs (m + k) → RunsWithin N (r ∷ rs) m
 
 -- the settled bytes are a whole number, and with those of the runs N at most

@@ -1,1 +1,2 @@
 // Bounds of the branches behind the transport buffer: laws on the definitions of `branch`, and no code.
+#![tactic(auto)]

@@ -8,25 +8,25 @@ use crate::queue::{Place, Ring, Three, entry, pop, push};
 use crate::{Run, neg_infinity};
 
 // The runs still tracked, and the bytes of those that are spent.
-#[derive(Drop)]
+#[derive(Clone, Copy)]
 pub struct CumulativeIn {
     pub runs: Ring,
     pub settled: f64,
 }
 
-#[derive(Drop)]
+#[derive(Clone, Copy)]
 pub struct Arrived {
     pub inflow: CumulativeIn,
     pub total: f64,
 }
 
-#[derive(Drop)]
+#[derive(Clone, Copy)]
 pub struct PushedRun {
     pub full: bool,
     pub inflow: CumulativeIn,
 }
 
-#[derive(Drop)]
+#[derive(Clone, Copy)]
 pub enum ArrivalTime {
     At(f64),
     NotQueued,

@@ -1,4 +1,6 @@
 // The branches behind the transport buffer (H.222.0, 2.4.2.3), with their queues in lent work.
+#![tactic(auto)]
+
 pub mod inflow;
 pub mod main_branch;
 mod marks;
@@ -10,7 +12,7 @@ ghost use Rattle.std.specs.Prelude.{◌≡◌};
 ghost use Rattle.ieee.specs.Binary64.{ -∞, +∞};
 
 // A run of bytes delivered over t0 to t1.
-#[derive(Drop)]
+#[derive(Clone, Copy)]
 pub struct Run {
     pub t0: f64,
     pub t1: f64,
@@ -18,7 +20,7 @@ pub struct Run {
 }
 
 // A pending removal, or the unit whose bytes are arriving.
-#[derive(Drop)]
+#[derive(Clone, Copy)]
 pub struct AccessUnit {
     pub decode_time: f64,
     pub bytes: f64,
@@ -27,7 +29,7 @@ pub struct AccessUnit {
 
 // What a packet delivers from the transport buffer: the header bytes up to the end of a stamp, those behind, and the content.
 // 0.0 bytes are no run. The stamp's decode time is -infinity where there is none; first_input_time is when its unit's first byte came.
-#[derive(Drop)]
+#[derive(Clone, Copy)]
 pub struct Delivered {
     pub decode_time: f64,
     pub first_input_time: f64,
@@ -37,7 +39,7 @@ pub struct Delivered {
 }
 
 // Header bytes of MBn, which end at a cumulative count.
-#[derive(Drop)]
+#[derive(Clone, Copy)]
 pub struct HeaderMark {
     pub threshold: f64,
     pub bytes: f64,

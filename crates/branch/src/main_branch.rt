@@ -12,7 +12,7 @@ use crate::queue::{Place, Ring, Three, entry, pop, push};
 use crate::{AccessUnit, Delivered, Run, infinity, neg_infinity};
 
 // What does not change: BSn in bytes, and where the chain's part of the work begins, with the depth of its two rings.
-#[derive(Drop)]
+#[derive(Clone, Copy)]
 pub struct MainModel {
     pub buffer_size: f64,
     pub base: usize,
@@ -20,7 +20,7 @@ pub struct MainModel {
 }
 
 // The unit whose bytes are arriving is open_au; its decode time is -infinity where there is none.
-#[derive(Drop)]
+#[derive(Clone, Copy)]
 pub struct MainBranch {
     pub inflow: CumulativeIn,
     pub pending: Ring,
@@ -33,7 +33,7 @@ pub struct MainBranch {
 }
 
 // full: a queue had no place left.
-#[derive(Drop)]
+#[derive(Clone, Copy)]
 pub struct Stepped {
     pub full: bool,
     pub branch: MainBranch,

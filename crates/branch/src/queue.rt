@@ -3,28 +3,28 @@ ghost use Rattle.std.specs.Prelude.{◌≡◌, ◌+◌, ◌*◌, ◌≤◌, ◌<
 ghost use Rattle.branch.specs.Queue.{Lies, slot_of, place_of, three_at, pop_def, PushedTo};
 
 // Where a ring stands in the work: the same for a whole replay.
-#[derive(Drop)]
+#[derive(Clone, Copy)]
 pub struct Place {
     pub base: usize,
     pub depth: usize,
 }
 
 // The entries of a ring: count of them, from place head on; behind the last place comes the first.
-#[derive(Drop)]
+#[derive(Clone, Copy)]
 pub struct Ring {
     pub head: usize,
     pub count: usize,
 }
 
 // An entry of three floats.
-#[derive(Drop)]
+#[derive(Clone, Copy)]
 pub struct Three {
     pub a: f64,
     pub b: f64,
     pub c: f64,
 }
 
-#[derive(Drop)]
+#[derive(Clone, Copy)]
 pub struct Pushed {
     pub full: bool,
     pub ring: Ring,

@@ -6,7 +6,7 @@ ghost use Rattle.branch.specs.SysBranch.{new_sys, rsys_of, since as sinceDef, id
 use crate::{Run, neg_infinity};
 
 // The time of the last byte is -infinity before the first run.
-#[derive(Drop)]
+#[derive(Clone, Copy)]
 pub struct SysBranch {
     pub fullness: f64,
     pub last_time: f64,

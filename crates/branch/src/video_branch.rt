@@ -21,7 +21,7 @@ use ieee::{max, min};
 
 // What does not change: the rate Rbxn in bytes a second, the sizes MBSn and EBSn in bytes, and where the chain's part of the work begins,
 // with the depth of its three rings.
-#[derive(Drop)]
+#[derive(Clone, Copy)]
 pub struct VideoModel {
     pub rbx: f64,
     pub mb_size: f64,
@@ -31,7 +31,7 @@ pub struct VideoModel {
 }
 
 // The same with the place of each ring.
-#[derive(Drop)]
+#[derive(Clone, Copy)]
 pub struct VideoLayout {
     pub rbx: f64,
     pub mb_size: f64,
@@ -42,7 +42,7 @@ pub struct VideoLayout {
 }
 
 // What a transfer changes: the header marks ahead, the bytes out of MBn, and the bytes into and out of EBn.
-#[derive(Drop)]
+#[derive(Clone, Copy)]
 pub struct Flow {
     pub marks: Ring,
     pub transferred: f64,
@@ -52,7 +52,7 @@ pub struct Flow {
 }
 
 // The leak. busy_since is -infinity while MBn is not busy, and proc_time is -infinity before the first leak.
-#[derive(Drop)]
+#[derive(Clone, Copy)]
 pub struct Leak {
     pub mb_in: CumulativeIn,
     pub flow: Flow,
@@ -62,20 +62,20 @@ pub struct Leak {
     pub proc_time: f64,
 }
 
-#[derive(Drop)]
+#[derive(Clone, Copy)]
 pub struct Headers {
     marks: Ring,
     bytes: f64,
 }
 
-#[derive(Drop)]
+#[derive(Clone, Copy)]
 pub struct Looked {
     leak: Leak,
     available: f64,
 }
 
 // What a turn gives: whether the loop goes on; where it does not, total is what has arrived by t.
-#[derive(Drop)]
+#[derive(Clone, Copy)]
 pub struct Turned {
     more: bool,
     total: f64,
@@ -429,7 +429,7 @@ fn leak_until(
 }
 
 // The branch behind the transport buffer; the unit whose bytes still arrive has a decode time of -infinity where there is none.
-#[derive(Drop)]
+#[derive(Clone, Copy)]
 pub struct VideoBranch {
     pub leak: Leak,
     pub pending: Ring,
@@ -441,7 +441,7 @@ pub struct VideoBranch {
 }
 
 // The pending unit that is due, if one is, and the time that the leak goes on to.
-#[derive(Drop)]
+#[derive(Clone, Copy)]
 pub struct Due {
     due: bool,
     to: f64,
@@ -449,7 +449,7 @@ pub struct Due {
 }
 
 // more: a unit was removed, and there may be others.
-#[derive(Drop)]
+#[derive(Clone, Copy)]
 pub struct Removal {
     more: bool,
     branch: VideoBranch,
@@ -601,7 +601,7 @@ fn advance(
 }
 
 // full: a queue had no place left.
-#[derive(Drop)]
+#[derive(Clone, Copy)]
 pub struct Stepped {
     pub full: bool,
     pub branch: VideoBranch,

@@ -1,0 +1,18 @@
+-- `branch::inflow::CumulativeIn::total` meets its contract. Assumes nothing.
+use native.Mathlib.Omega.{arith}
+use Rattle.branch.proofs.Rings.{walk_starts}
+use Rattle.branch.proofs.Inflows.{total_more, total_stops, total_ends}
+use Rattle.branch.proofs.inflow.CumulativeIn.total.Goals as goal
+
+pub loop-i-init : goal.loop-i-init
+loop-i-init c = walk_starts 3 _ _ _ _ _ _
+
+pub returns-then-run-t : goal.returns-then-run-t
+returns-then-run-t c = total_stops _ c.loop-i.invariant (omega arith) (cc)
+
+pub loop-i-preserved : goal.loop-i-preserved
+loop-i-preserved c =
+    rw (c.fraction_by.ensures, c.run_at-run.ensures) (total_more _ c.loop-i.invariant (omega arith) (rw c.run_at-run.ensures at c.if-run-t.false))
+
+pub returns : goal.returns
+returns c = total_ends _ c.loop-i.invariant c.loop-i-test.false

@@ -1,0 +1,15 @@
+-- `branch::video_branch::backlogged` meets its contract. Assumes nothing.
+use Rattle.branch.proofs.VideoTurns.{backlogged_by}
+use Rattle.branch.specs.VideoInWork.{leak_of, rates_of}
+use Rattle.branch.proofs.video_branch.backlogged.Goals as goal
+
+pub returns : goal.returns
+unfolding leak_of
+returns c =
+    let a = c.args in
+    let x = c.transfer-moved.ensures in
+    let S = leak_of a.work.now a.m a.l in
+    record {
+      lies = record { runs = c.requires.runs; marks = x.lies };
+      state = backlogged_by (rates_of a.m) S a.t a.available a.room _ _ _ _ c.min.ensures c.min-take.ensures x.state c.max.ensures;
+    }

@@ -1,0 +1,20 @@
+-- `branch::video_branch::turn` meets its contract. Assumes nothing.
+use Rattle.branch.specs.VideoBranch.{eb_room}
+use Rattle.branch.specs.VideoInWork.{flow_of}
+use Rattle.branch.proofs.VideoTurns.{stalled_turn, paced_turn, backlogged_turn}
+use Rattle.branch.proofs.video_branch.turn.Goals as goal
+
+pub returns-then-room : goal.returns-then-room
+unfolding eb_room flow_of
+returns-then-room c =
+    stalled_turn _ _ _ _ _ _ _ _ c.look-s.ensures.leak c.look-s.ensures.available _ c.if-room.true c.stalled.ensures
+
+pub returns-then-available : goal.returns-then-available
+unfolding eb_room flow_of
+returns-then-available c =
+    paced_turn _ _ _ _ _ _ _ _ c.look-s.ensures.leak c.look-s.ensures.available _ c.if-room.false c.if-available.true c.paced.ensures
+
+pub returns : goal.returns
+unfolding eb_room flow_of
+returns c =
+    backlogged_turn _ _ _ _ _ _ _ _ c.look-s.ensures.leak c.look-s.ensures.available _ c.if-room.false c.if-available.false c.backlogged.ensures
