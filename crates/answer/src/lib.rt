@@ -1,4 +1,6 @@
 // What a replay answers: number, place and PID, the report, and the figures of the chains.
+#![tactic(auto)]
+
 ghost use Rattle.std.specs.Prelude.{◌≡◌, []};
 ghost use Rattle.answer.specs.Answer.{figures_of, refused_answer};
 
@@ -6,14 +8,14 @@ use error::{Code, Refusal};
 use report::{TStdChainStats, TStdReport};
 
 // One record per stream, one more if there are system PIDs: 9 at most, of which the first count are in use.
-#[derive(Drop)]
+#[derive(Clone, Copy)]
 pub struct Figures {
     pub rows: [TStdChainStats; 9],
     pub count: usize,
 }
 
 // Number 0 is an accepted recording.
-#[derive(Drop)]
+#[derive(Clone, Copy)]
 pub struct Answer {
     pub code: Code,
     pub report: TStdReport,

@@ -8,13 +8,13 @@ use crate::limits::{MAX_CLOCK_DEPTH, MAX_QUEUE_DEPTH, MAX_STREAMS, MAX_SYSTEM_PI
 use crate::model::{TStdBranch, TStdStreamModel, branch_ok};
 use crate::range::{pid_ok, rate_ok};
 
-#[derive(Drop)]
+#[derive(Clone, Copy)]
 pub struct TStdStream {
     pub pid: u16,
     pub model: TStdStreamModel,
 }
 
-#[derive(Drop)]
+#[derive(Clone, Copy)]
 pub struct TStdConfig {
     pub pcr_pid: u16,
     pub streams: [TStdStream; MAX_STREAMS],

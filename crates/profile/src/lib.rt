@@ -1,5 +1,7 @@
 // The profile of a replay: stream models and configuration as in the Rust, the limits of document 01, the work that a
 // replay needs, and whose packets a PID carries.
+#![tactic(auto)]
+
 pub mod config;
 pub mod limits;
 pub mod model;

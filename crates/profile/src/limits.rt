@@ -34,7 +34,7 @@ pub const MAX_CLOCK_DEPTH: usize = 3000;
 pub const MAX_RECORDING: usize = 16777216;
 
 // The two that an entry may set lower than the replay's; the others are fixed.
-#[derive(Drop)]
+#[derive(Clone, Copy)]
 pub struct Limits {
     pub longest_recording: usize,
     pub deepest_queue: usize,

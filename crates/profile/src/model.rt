@@ -11,7 +11,7 @@ pub const AUDIO_RX_BPS: u64 = 2000000;
 
 pub const AUDIO_MAIN_BUFFER_SIZE: usize = 3584;
 
-#[derive(Drop)]
+#[derive(Clone, Copy)]
 pub enum TStdBranch {
     // TBn to Bn; the size is BSn in bytes.
     Main {
@@ -25,14 +25,14 @@ pub enum TStdBranch {
     },
 }
 
-#[derive(Drop)]
+#[derive(Clone, Copy)]
 pub struct TStdStreamModel {
     // Rxn, the rate at which the transport buffer drains, in bit/s.
     pub rx_bps: u64,
     pub branch: TStdBranch,
 }
 
-#[derive(Drop)]
+#[derive(Clone, Copy)]
 pub enum ModelAnswer {
     Model(TStdStreamModel),
     Refused(Refusal),

@@ -5,7 +5,7 @@ ghost use Rattle.profile.specs.Owner.{first_index, owner_of, owner_by, pids_of};
 use crate::config::TStdConfig;
 use crate::limits::{MAX_STREAMS, MAX_SYSTEM_PIDS, used};
 
-#[derive(Drop)]
+#[derive(Clone, Copy)]
 pub enum Owner {
     // The slot's index among the streams.
     Stream(usize),
@@ -14,7 +14,7 @@ pub enum Owner {
 }
 
 // The PIDs of a configuration alone.
-#[derive(Drop)]
+#[derive(Clone, Copy)]
 pub struct Pids {
     pub streams: [u16; MAX_STREAMS],
     pub stream_count: usize,

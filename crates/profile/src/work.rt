@@ -8,14 +8,14 @@ use crate::limits::{Limits, in_limits};
 use error::Refusal;
 
 // How many f64, u64 and chain records.
-#[derive(Drop)]
+#[derive(Clone, Copy)]
 pub struct WorkSize {
     pub times: usize,
     pub places: usize,
     pub row: usize,
 }
 
-#[derive(Drop)]
+#[derive(Clone, Copy)]
 pub enum Checked {
     // What the replay needs of the work and row that it is lent.
     Fits(WorkSize),

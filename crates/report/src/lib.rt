@@ -1,4 +1,6 @@
 // The report of a replay: one line for each kind and PID with the worst figure, the count of events, and the figures of a chain.
+#![tactic(auto)]
+
 ghost use Rattle.std.specs.Prelude.{◌≡◌};
 ghost use Rattle.report.specs.Report.{empty_report, empty_stats, conformant, answer_code};
 ghost use Rattle.report.specs.Record.{recorded, record_code};
@@ -8,13 +10,13 @@ pub mod violation;
 use error::Refusal;
 pub use violation::{Figure, Key, TStdViolation, ViolationFields, merge_worse};
 
-#[derive(Drop)]
+#[derive(Clone, Copy)]
 pub struct ViolationLine {
     pub violation: TStdViolation,
 }
 
 // The first violation_count lines are in use.
-#[derive(Drop)]
+#[derive(Clone, Copy)]
 pub struct TStdReport {
     pub violations: [ViolationLine; 64],
     pub violation_count: usize,
@@ -24,7 +26,7 @@ pub struct TStdReport {
 }
 
 // The figures of one chain.
-#[derive(Drop)]
+#[derive(Clone, Copy)]
 pub struct TStdChainStats {
     pub pid: u16,
     pub peak_tb_bytes: u64,
@@ -34,13 +36,13 @@ pub struct TStdChainStats {
     pub max_delay_seconds: f64,
 }
 
-#[derive(Drop)]
+#[derive(Clone, Copy)]
 pub enum RecordAnswer {
     Done,
     Refused(Refusal),
 }
 
-#[derive(Drop)]
+#[derive(Clone, Copy)]
 pub struct Recorded {
     pub answer: RecordAnswer,
     pub report: TStdReport,

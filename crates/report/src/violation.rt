@@ -5,7 +5,7 @@ ghost use Rattle.report.specs.Violation.{fields_of, in_bytes, in_seconds, key_of
 
 use TStdViolation::*;
 
-#[derive(Drop)]
+#[derive(Clone, Copy)]
 pub enum TStdViolation {
     TbOverflow {
         pid: u16,
@@ -50,14 +50,14 @@ pub enum TStdViolation {
 }
 
 // What was measured: a peak or missing bytes, or the seconds of a busy stretch or a delay.
-#[derive(Drop)]
+#[derive(Clone, Copy)]
 pub enum Figure {
     Bytes(u64),
     Seconds(f64),
 }
 
 // A violation field by field. A field that its kind lacks is 0.
-#[derive(Drop)]
+#[derive(Clone, Copy)]
 pub struct ViolationFields {
     pub kind: u8,
     pub pid: u16,
@@ -67,7 +67,7 @@ pub struct ViolationFields {
 }
 
 // A report has one line for each key.
-#[derive(Drop)]
+#[derive(Clone, Copy)]
 pub struct Key {
     pub kind: u8,
     pub pid: u16,

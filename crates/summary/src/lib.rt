@@ -1,5 +1,7 @@
 // The report of a replay, made once from the slots of its events: the violation of each slot that has events, in the order of
 // their first events. Stream i has the six slots from 1 + 6 * i on, the system chain those from 49 on.
+#![tactic(auto)]
+
 ghost use Rattle.std.specs.Prelude.{◌-◌, ◌≡◌};
 ghost use Rattle.events.specs.Slots.{slots};
 ghost use Rattle.summary.specs.Violation.{overflow_in, underflow_in, stream_violation, system_violation, system_pid, event_of, slot_violation};
