@@ -14,7 +14,7 @@ use Rattle.arrival.specs.declared.RateInterval.{RateInterval}
 use Rattle.arrival.specs.declared.Sample.{Sample}
 use Rattle.arrival.specs.declared.Anchor.{Anchor}
 use Rattle.arrival.specs.declared.Closed.{Closed}
-use Rattle.arrival.specs.ArrivalClock.{Built, intervals, refused, and_then_lem, behind, interval_at, stepped, restarted, anchor_at, step_to, rate_to, close, build_from, build_all, build}
+use Rattle.arrival.specs.ArrivalClock.{Built, intervals, refused, and_then, behind, interval_at, stepped, restarted, anchor_at, step_to, rate_to, close, build_from, build_all, build}
 use Rattle.demands.specs.Refused.{Reaches, here, later, Comes, comes, MarkBeforeRate, NoStep, BadRate, SampleIs}
 
 -- ---- one sample
@@ -60,10 +60,10 @@ data FromWay (n : ℕ) (a : Anchor) (ss : List Sample) : Built → Type 0 where
   built : (is : List RateInterval) → FromWay n a ss (intervals is)
 
 then_way : {n : ℕ} {a b : Anchor} {s : Sample} {ss : List Sample} (i : RateInterval) → close n a s ≡ Closed.Closes i b
-    → {x : Built} → FromWay (n + 1) b ss x → FromWay n a (s ∷ ss) (and_then_lem i x)
+    → {x : Built} → FromWay (n + 1) b ss x → FromWay n a (s ∷ ss) (and_then i x)
 then_way i e (FromWay.mark r h) = FromWay.mark (later i e r) h
 then_way i e (FromWay.no_step r h) = FromWay.no_step (later i e r) h
-then_way i e (FromWay.bad-rate r h) = FromWay.bad-rate (later i e r) h
+then_way i e (FromWay.bad_rate r h) = FromWay.bad_rate (later i e r) h
 then_way i e (FromWay.built is) = FromWay.built (i ∷ is)
 
 from_way : (ss : List Sample) (n : ℕ) (a : Anchor) → FromWay n a ss (build_from n a ss)
@@ -74,13 +74,13 @@ from_way (s ∷ ss) n a = by (λ b. from_way ss (n + 1) b) (close n a s) refl (c
     by : ((b : Anchor) → FromWay (n + 1) b ss (build_from (n + 1) b ss)) → (x : Closed) → close n a s ≡ x → CloseWay n a s x → FromWay n a (s ∷ ss) (behind x (λ b. build_from (n + 1) b ss))
     by again x e (CloseWay.mark h) = FromWay.mark here h
     by again x e (CloseWay.no_step h) = FromWay.no_step here h
-    by again x e (CloseWay.bad-rate h) = FromWay.bad-rate here h
+    by again x e (CloseWay.bad_rate h) = FromWay.bad_rate here h
     by again x e (CloseWay.closes i b) = then_way i e (again b)
 
 reaches_refused : {n m : ℕ} {a b : Anchor} {s : Sample} {ss : List Sample} {r : Refusal} → Reaches n a ss m b s → close m b s ≡ Closed.Refuses r → build_from n a ss ≡ refused r
 unfolding build_from
 reaches_refused here e = rw e
-reaches_refused (later i f h) e = rw f (ap (and_then_lem i) (reaches_refused h e))
+reaches_refused (later i f h) e = rw f (ap (and_then i) (reaches_refused h e))
 
 comes_refused : {n : ℕ} {a : Anchor} {s : Sample} {ss : List Sample} {r : Refusal} → Comes ss n a s → close n a s ≡ Closed.Refuses r → build_all ss ≡ refused r
 comes_refused (comes h) e = reaches_refused h e
@@ -105,7 +105,7 @@ clock_way depth ss = by (ltb depth (length ss)) refl (ltb (length ss) 2) refl
         some : {x : Built} → FromWay 1 (anchor_at s) xs x → ClockWay depth (s ∷ xs) x
         some (FromWay.mark r m) = ClockWay.mark h k (record { anchor = _; sample = _; before = comes r; holds = m })
         some (FromWay.no_step r m) = ClockWay.no_step h k (record { anchor = _; sample = _; before = comes r; holds = m })
-        some (FromWay.bad-rate r m) = ClockWay.bad-rate h k (record { anchor = _; sample = _; before = comes r; holds = m })
+        some (FromWay.bad_rate r m) = ClockWay.bad_rate h k (record { anchor = _; sample = _; before = comes r; holds = m })
         some (FromWay.built is) = ClockWay.built is
 
     by : (t : Bool) → ltb depth (length ss) ≡ t → (u : Bool) → ltb (length ss) 2 ≡ u → ClockWay depth ss (cond t (refused (Refusal.ClockFull depth)) (cond u (refused Refusal.TooFewPcrs) (build_all ss)))

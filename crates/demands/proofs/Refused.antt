@@ -62,7 +62,7 @@ module _ (limits : Limits) (c : TStdConfig) (room : WorkSize) (l : List ℕ) whe
 
   -- ---- number 4
   from_4 : W (refused_with Refusal.NoPacketLayout) → NoLayout limits c room l
-  from_4 (Way.no-layout h k) = record { fit = h; none = k }
+  from_4 (Way.no_layout h k) = record { fit = h; none = k }
 
   pub refused_4 : (answer limits c room l ≡ refused_with Refusal.NoPacketLayout) ↔ NoLayout limits c room l
   refused_4 = (λ e. from_4 (to_way _ e), λ h. layout_refusal limits c room (needed_of c) l (fit_check limits c room l h.fit) h.none)
@@ -98,7 +98,7 @@ module _ (limits : Limits) (c : TStdConfig) (room : WorkSize) (l : List ℕ) whe
     )
 
     from_9 : W (refused_with (Refusal.RateOutsideLimits n)) → RateAt limits c room l n
-    from_9 (Way.bad-rate h k) = record { sampled = h; sample = k }
+    from_9 (Way.bad_rate h k) = record { sampled = h; sample = k }
 
     pub refused_9 : (answer limits c room l ≡ refused_with (Refusal.RateOutsideLimits n)) ↔ RateAt limits c room l n
     refused_9 = (
@@ -108,7 +108,7 @@ module _ (limits : Limits) (c : TStdConfig) (room : WorkSize) (l : List ℕ) whe
 
   -- ---- number 8
   from_8 : (n : ℕ) → W (refused_with (Refusal.ClockFull n)) → ClockFullAt limits c room l n
-  from_8 n (Way.full-clock h k) = record { laid_out = h; place = refl; more = k }
+  from_8 n (Way.full_clock h k) = record { laid_out = h; place = refl; more = k }
 
   pub refused_8 : (n : ℕ) → (answer limits c room l ≡ refused_with (Refusal.ClockFull n)) ↔ ClockFullAt limits c room l n
   refused_8 n = (

@@ -44,7 +44,7 @@ use Rattle.profile.specs.Owner.{owner_of}
 use Rattle.profile.proofs.Within.{Within}
 use Rattle.profile.proofs.Ownership.{OwnerSlot, owner_slot}
 use Rattle.model.specs.Chain.{ChainStep, new_chain, packet_step}
-use Rattle.model.specs.Replay.{State, running, full, started, chain_at, stream_at, timed, system_step, owned_step, fact_step}
+use Rattle.model.specs.Replay.{State, running, started, chain_at, stream_at, timed, system_step, owned_step, fact_step}
 use Rattle.model_bounds.specs.Chain.{ChainHolds, ChainEnded, PacketHolds, EndHolds}
 use Rattle.model_bounds.specs.Times.{PacketTime}
 use Rattle.model_bounds.proofs.Times.{packet_time}

@@ -54,11 +54,11 @@ module _ (limits : Limits) (c : TStdConfig) (room : WorkSize) (l : List ℕ) whe
 
   by_clock : (h : LaidOut limits c room l) (b : Built) → build c.clock_depth (samples_in c l) ≡ b → ClockWay c.clock_depth (samples_in c l) b → Way (with_clock c (read_in c l) b)
   unfolding with_clock
-  by_clock h b e (ClockWay.full-clock d) = full_clock h d
+  by_clock h b e (ClockWay.full_clock d) = full_clock h d
   by_clock h b e (ClockWay.few d) = few h d
   by_clock h b e (ClockWay.mark two most s) = mark (record { laid_out = h; two = two; within_depth = most }) s
   by_clock h b e (ClockWay.no_step two most s) = no_step (record { laid_out = h; two = two; within_depth = most }) s
-  by_clock h b e (ClockWay.bad-rate two most s) = bad_rate (record { laid_out = h; two = two; within_depth = most }) s
+  by_clock h b e (ClockWay.bad_rate two most s) = bad_rate (record { laid_out = h; two = two; within_depth = most }) s
   by_clock h b e (ClockWay.built clock) = by (run_way c clock (length (samples_in c l)) (read_in c l).facts 0 (started c))
     where
       k : Clocked limits c room l

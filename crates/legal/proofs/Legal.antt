@@ -32,12 +32,13 @@ use Rattle.model.specs.Chain.{ChainStep, new_chain, packet_step, tb_events, end_
 use Rattle.model.specs.Replay.{State, running, started, with_events, chain_at, stream_at, stepped, timed, system_step, owned_step, fact_step, system_events}
 use Rattle.demands.specs.Refused.{stream_of}
 use Rattle.demands.specs.State.{StateHolds}
-use Rattle.demands.proofs.Ends.{behind, same_running, stepped_running, counted}
+use Rattle.demands.proofs.Ends.{behind, same_running, stepped_running}
 use Rattle.demands.proofs.Found.{each_append}
 use Rattle.legal.specs.Legal.{BranchFits, StateLegal}
 use Rattle.legal.proofs.Cases.{either}
 use Rattle.legal.proofs.Events.{AllAbove, tb_above, sys_above}
 use Rattle.legal.proofs.Chain.{ChainLegal, chain_new_fits, packet_legal, end_legal}
+use Rattle.legal.proofs.Streams.{stream_low}
 
 -- ---- the events of chain i
 module _ (i : ℕ) (low : i < 9) where
@@ -55,15 +56,11 @@ unfolding started Each
 legal_starts c = record { events = tt; busy = λ j. rw (get_or-map new_chain (streams_of c) j unused_stream) (chain_new_fits (stream_of c j)) }
 
 module _ (c : TStdConfig) (within : Within replay_limits c) where
-  -- a stream in use is one of chains 0 to 7
-  stream_low : (i : ℕ) → i < length (streams_of c) → i < 9
-  stream_low i h = omega (arith, counted c i h, within.stream_count)
-
   -- ---- a step of chain i
   behind_legal : (i : ℕ) (s : State) (x : ChainStep) → i < length (streams_of c) → length s.chains ≡ length (streams_of c) → StateLegal c s → ChainLegal x → StateLegal c (behind i s x)
   behind_legal i s x inside n h p =
       record {
-        events = with_legal i (stream_low i inside) s.events x.events h.events p.events;
+        events = with_legal i (stream_low c within i inside) s.events x.events h.events p.events;
         busy = λ j. go j (eqb j i) refl;
       }
     where

@@ -5,5 +5,7 @@ pub mod Events
 pub mod MainEvents
 pub mod VideoEvents
 pub mod Chain
+pub mod Streams
 pub mod Legal
 pub mod Sound
+pub mod Replays

@@ -1,5 +1,5 @@
--- The state of pass 2 with its bounds and its legal events: at the start, behind each packet and behind each stream's end; and so every event that a
--- replay notes is legal, and they are few enough to be counted. Assumes nothing.
+-- The state of pass 2 with its bounds and its legal events: at the start, behind each packet and behind each stream's end; and so every event of the
+-- last state is legal, and they are few enough to be counted. Assumes nothing.
 use Prim.Native.Nat.{ℕ, suc, ◌+◌, ◌*◌, ◌^◌, ◌<◌, ◌≤◌}
 use native.Mathlib.Omega.{arith}
 use mathlib.Core.Path.{◌≡◌, refl}
@@ -12,7 +12,6 @@ use Rattle.arrival.specs.Bounds.{AllWithin}
 use Rattle.report.specs.Record.{Each, most_events}
 use Rattle.profile.specs.declared.config.TStdStream.{TStdStream}
 use Rattle.profile.specs.declared.config.TStdConfig.{TStdConfig}
-use Rattle.profile.specs.declared.work.WorkSize.{WorkSize}
 use Rattle.profile.specs.Config.{streams_of}
 use Rattle.profile.specs.Limits.{replay_limits}
 use Rattle.profile.proofs.Within.{Within}
@@ -20,10 +19,10 @@ use Rattle.summary.specs.Summary.{Legal}
 use Rattle.model.specs.Chain.{end_step}
 use Rattle.model.specs.Replay.{State, running, started, chain_at, stepped, fact_step, ends_from, system_events}
 use Rattle.model_bounds.proofs.Chain.{end_holds}
-use Rattle.demands.specs.Refused.{stream_of, RunsTo, there, packet, EndsTo, no_end, an_end, Completed}
+use Rattle.demands.specs.Refused.{stream_of, RunsTo, there, packet, EndsTo, no_end, an_end}
 use Rattle.demands.proofs.Ends.{place, stepped_running, ends_run}
 use Rattle.demands.proofs.State.{started_holds, end_step_holds, fact_holds}
-use Rattle.demands.proofs.Runs.{FactsFit, profile_within, read_fits, clock_holds}
+use Rattle.demands.proofs.Runs.{FactsFit}
 use Rattle.demands.proofs.Accepted.{last_few}
 use Rattle.legal.specs.Legal.{Sound}
 use Rattle.legal.proofs.Legal.{legal_starts, legal_packet, legal_end, legal_system}
@@ -41,7 +40,7 @@ module _ (c : TStdConfig) (within : Within replay_limits c) where
           legal = legal_packet c within clock k f s t h.holds h.legal e;
         }
 
-    sound_runs : {k m : ℕ} {fs gs : List Fact} {s t : State} → RunsTo c clock k fs s m gs t → FactsFit k fs → Sound c k 0 s → Sound c m 0 t × FactsFit m gs
+    pub sound_runs : {k m : ℕ} {fs gs : List Fact} {s t : State} → RunsTo c clock k fs s m gs t → FactsFit k fs → Sound c k 0 s → Sound c m 0 t × FactsFit m gs
     unfolding FactsHold
     sound_runs there f h = (h, f)
     sound_runs {k} (packet {f = x} {fs = fs} {s = s} {s' = s'} e r) f h =
@@ -76,15 +75,3 @@ module _ (c : TStdConfig) (within : Within replay_limits c) where
     -- the events of the last state
     pub sound_events : (s : State) → Sound c k (length (streams_of c)) s → Each Legal (system_events c s) × (length (system_events c s) ≤ most_events)
     sound_events s h = (legal_system c k (length (streams_of c)) s h.holds h.legal, last_few c within k fit s h.holds)
-
--- every event of a replay that runs through all packets and ends
-pub states_legal : (c : TStdConfig) (room : WorkSize) (l : List ℕ) (h : Completed replay_limits c room l)
-    → Each Legal (system_events c h.ended.final) × (length (system_events c h.ended.final) ≤ most_events)
-states_legal c room l h =
-    let laid = h.clocked.laid_out in
-    let w = profile_within c room l laid in
-    let clock = h.clocked.clock in
-    let ok = clock_holds c room l laid clock h.clocked.built in
-    let r = sound_runs c w clock ok.all ok.some h.ended.runs (read_fits c room l laid) (sound_starts c w) in
-    let fit : 188 * h.ended.count ≤ 2 ^ 24 = omega (arith, r.1.fit) in
-    sound_events c w h.ended.count fit h.ended.final (sound_ends c w h.ended.count fit h.ended.last h.ended.final r.0 h.ended.ends)

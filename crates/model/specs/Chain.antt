@@ -1,6 +1,6 @@
 -- A chain of the model: the transport buffer TBn and the branch behind it; one packet's step, and the end
 -- (the loop over packets and the wrap-up of the Rust's `analyze_tstd`, for one stream).
-use Rattle.std.specs.Prelude.{ℕ, ◌+◌, Bool, true, false, List, [], ◌++◌, Float}
+use Rattle.std.specs.Prelude.{ℕ, Bool, true, false, List, [], ◌++◌, Float}
 use Rattle.std.specs.Float.Ieee.{to_unsigned, lt}
 use Rattle.ieee.specs.Binary64.{◌⊕◌, ◌⊘◌, 0f, 1f, 8f, 512f, 1e-6f}
 use Rattle.packet.specs.declared.TsPacket.{TsPacket}

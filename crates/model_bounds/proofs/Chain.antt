@@ -1,5 +1,5 @@
 -- A chain of the replay stays within bounds: a new one, through every packet, and at the end, with the figures of its report. Assumes nothing.
-use Prim.Native.Nat.{ℕ, suc, zero-le, ◌+◌, ◌-◌, ◌*◌, ◌^◌, ◌<◌, ◌≤◌}
+use Prim.Native.Nat.{ℕ, suc, zero-le, ◌+◌, ◌-◌, ◌*◌, ◌^◌, ◌≤◌}
 use native.Mathlib.Nat.{le_refl, le_trans, le-add_right, mul-le-mul_left}
 use native.Mathlib.Omega.{arith}
 use mathlib.Core.Path.{◌≡◌}
@@ -24,7 +24,7 @@ use Rattle.fifo.specs.Bounds.{Bounded}
 use Rattle.fifo.proofs.Bounds.{new_bounded, longest_recording, peak_below}
 use Rattle.events.specs.Event.{Event, tb_overflow, tb_busy}
 use Rattle.branch.specs.declared.Delivered.{Delivered}
-use Rattle.branch.specs.MainBranch.{Main, new_main}
+use Rattle.branch.specs.MainBranch.{new_main}
 use Rattle.branch.specs.VideoStep.{new_video}
 use Rattle.bounds.specs.Events.{EventsIn, FewEvents, UpTo, latest_time}
 use Rattle.bounds.specs.Runs.{longest_window}

@@ -1,5 +1,7 @@
 // The transport buffer TBn (H.222.0, 2.4.2.3): what a packet, by the runs of its payload, delivers to the branch behind it.
 // The bytes of a packet come from t0 to u, evenly over the span between.
+#![tactic(auto)]
+
 ghost use Rattle.std.specs.Prelude.{◌≡◌, ◌+◌, ◌^◌, ◌<◌};
 ghost use Rattle.ieee.specs.Binary64.{ -∞};
 ghost use Rattle.scanner.specs.State.{only_body};
@@ -12,14 +14,14 @@ use fifo::FluidFifo;
 use scanner::{DecodeTs, Runs};
 
 // The transport buffer behind a packet, and what the packet delivers.
-#[derive(Drop)]
+#[derive(Clone, Copy)]
 pub struct Arrived {
     pub tb: FluidFifo,
     pub delivered: Delivered,
 }
 
 // The transport buffer behind a run, and the run as it left.
-#[derive(Drop)]
+#[derive(Clone, Copy)]
 struct Through {
     tb: FluidFifo,
     run: Run,

@@ -7,8 +7,7 @@ use lib.Dec.{leb}
 use borrow.Author.Tests.{le-leb, lt-leb, leb-true, leb-false}
 use Rattle.scanner.specs.declared.Runs.{Runs}
 use Rattle.transport.specs.Arrive.{fits_in}
-use Rattle.transport.proofs.fits.Statement.{statement}
-use Rattle.transport.proofs.fits.Tie as tie
+use Rattle.transport.proofs.fits.Goals as goal
 
 last_fits : (a h r b : ℕ) → a + h + r ≤ 188 → leb b (188 - a - h - r) ≡ leb (a + h + r + b) 188
 last_fits a h r b k = go (leb b (188 - a - h - r)) refl
@@ -21,22 +20,19 @@ outside : (a : ℕ) (r : Runs) → 188 < a + r.head + r.rest + r.body → false 
 unfolding fits_in
 outside a r h = sym (lt-leb (a + r.head + r.rest + r.body) 188 h)
 
-returns : tie.Need-returns
-returns c = let a = c.before.args in outside a.payload-start a.runs (omega arith)
+pub returns-then-payload_start-gt188 : goal.returns-then-payload_start-gt188
+returns-then-payload_start-gt188 c = let a = c.args in outside a.payload_start a.runs (omega arith)
 
-returns-2 : tie.Need-returns-2
-returns-2 c = let a = c.before.before.before.args in outside a.payload-start a.runs (omega arith)
+pub returns-then-behind_header-runs : goal.returns-then-behind_header-runs
+returns-then-behind_header-runs c = let a = c.args in outside a.payload_start a.runs (omega arith)
 
-returns-3 : tie.Need-returns-3
-returns-3 c =
-    let a = c.before.before.before.before.before.before.args in
-    outside a.payload-start a.runs (omega arith)
+pub returns-then-behind_head-runs : goal.returns-then-behind_head-runs
+returns-then-behind_head-runs c =
+    let a = c.args in
+    outside a.payload_start a.runs (omega arith)
 
-returns-4 : tie.Need-returns-4
+pub returns : goal.returns
 unfolding fits_in
-returns-4 c =
-    let a = c.before.before.before.before.before.before.before.before.args in
-    last_fits a.payload-start a.runs.head a.runs.rest a.runs.body (omega arith)
-
-pub fits-spec : {M : Type 1} → statement M
-fits-spec = tie.close (tie.spec returns returns-2 returns-3 returns-4)
+returns c =
+    let a = c.args in
+    last_fits a.payload_start a.runs.head a.runs.rest a.runs.body (omega arith)
