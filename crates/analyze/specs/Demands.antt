@@ -50,7 +50,7 @@ module _ (l : List ℕ) (c : TStdConfig) (lent left : Lent) (code : Code) (is : 
         record {
           refusal = x;
           told = code_refused;
-          condition = (tstd.refused-iff replay_limits c (room_of lent) l x).0 e;
+          condition = (tstd.refused_iff replay_limits c (room_of lent) l x).0 e;
           report_kept = is.report ∙ ap (λ (o : Outcome). report_for o lent.report) e;
           row_kept = is.row ∙ ap (λ (o : Outcome). row_for o lent.row) e;
         }
@@ -82,12 +82,12 @@ module _ (l : List ℕ) (c : TStdConfig) (lent left : Lent) (code : Code) (is : 
     by_accepted =
         record {
           told = code_accepted;
-          completed = (tstd.record-accepts c (room_of lent) l r fs e).completed;
-          finite = rw (report_is, chains_are) (tstd.accepted-finite c (room_of lent) l r fs e);
-          bounded = rw (report_is, chains_are) (tstd.accepted-bounds c (room_of lent) l r fs e);
-          recorded = rw report_is (tstd.record-accepts c (room_of lent) l r fs e);
-          keys = rw report_is (tstd.keys-51 c (room_of lent) l r fs e);
-          conformant = rw report_is (tstd.conformant-iff c (room_of lent) l r fs e);
+          completed = (tstd.record_accepts c (room_of lent) l r fs e).completed;
+          finite = rw (report_is, chains_are) (tstd.accepted_finite c (room_of lent) l r fs e);
+          bounded = rw (report_is, chains_are) (tstd.accepted_bounds c (room_of lent) l r fs e);
+          recorded = rw report_is (tstd.record_accepts c (room_of lent) l r fs e);
+          keys = rw report_is (tstd.keys_51 c (room_of lent) l r fs e);
+          conformant = rw report_is (tstd.conformant_iff c (room_of lent) l r fs e);
           surplus = surplus_is;
         }
 
@@ -107,7 +107,7 @@ module _ (l : List ℕ) (c : TStdConfig) (lent left : Lent) (code : Code) (is : 
   pub accepted_iff : (code.number ≡ 0) ↔ Completed replay_limits c (room_of lent) l
   accepted_iff = (
     λ z. completed_by z finished,
-    λ h. ap (λ (k : Code). k.number) (code_accepted _ _ ((laws.accepted-iff replay_limits c (room_of lent) l _ _).1 (h, refl))),
+    λ h. ap (λ (k : Code). k.number) (code_accepted _ _ ((laws.accepted_iff replay_limits c (room_of lent) l _ _).1 (h, refl))),
   )
 
   condition_by : (x : Refusal) → code ≡ code_of x → Accepted l c lent left code ⊎ Refused l c lent left code → RefusedBy replay_limits c (room_of lent) l x
@@ -116,7 +116,7 @@ module _ (l : List ℕ) (c : TStdConfig) (lent left : Lent) (code : Code) (is : 
 
   -- each of the ten refusals, with its place and PID, comes exactly under its condition
   pub refused_iff : (x : Refusal) → (code ≡ code_of x) ↔ RefusedBy replay_limits c (room_of lent) l x
-  refused_iff x = (λ e. condition_by x e finished, λ h. code_refused x ((tstd.refused-iff replay_limits c (room_of lent) l x).1 h))
+  refused_iff x = (λ e. condition_by x e finished, λ h. code_refused x ((tstd.refused_iff replay_limits c (room_of lent) l x).1 h))
 
 -- ---- the answers to two recordings, with one profile and one length of each part of work and row, whatever these and the report held before
 module _ (c : TStdConfig) (a b : List ℕ) (lent lent' left left' : Lent) (code code' : Code) (is : Analyzed a c lent left code) (is' : Analyzed b c lent' left' code') (room : room_of lent ≡ room_of lent') where

@@ -1,4 +1,6 @@
 // `analyze_tstd` as a caller has it: the work, the row of chain figures and the report are lent. The replay itself is tstd's.
+#![tactic(auto)]
+
 ghost use Rattle.std.specs.Prelude.{◌≡◌, ◌<◌, ◌≤◌, length, get_or};
 ghost use Rattle.report.specs.Report.{empty_stats};
 ghost use Rattle.analyze.specs.Analyze.{written, lending, Analyzed};

@@ -71,17 +71,17 @@ module _ {w : List Float} {pid base depth k : ℕ} {b : MainBranch} {v : VideoBr
 -- ---- the new chain
 
 new_by : (w : List Float) (s : TStdStream) (m : TStdBranch) (pid base depth : ℕ) → s.model.branch ≡ m → 0 < depth → base + 8 * depth ≤ length w
-    → BranchIs w m pid base depth 0 main-work.newBranch video-work.newBranch (new_chain s).branch
+    → BranchIs w m pid base depth 0 main-work.new_branch video-work.new_branch (new_chain s).branch
 unfolding new_chain new_main new_video
 new_by w s (TStdBranch.Main size) pid base depth e d r =
     let p = main_model size base depth in
-    rw e (main_is size (ap main (main-laws.new_is w p)) (main-laws.new-lies w p d (omega arith)) r (omega arith))
+    rw e (main_is size (ap main (main-laws.new_is w p)) (main-laws.new_lies w p d (omega arith)) r (omega arith))
 new_by w s (TStdBranch.Video rbx mb eb) pid base depth e d r =
     let p = video_model rbx mb eb base depth in
-    rw e (video_is rbx mb eb (ap video (video-laws.new_is w (layout_of p))) (video-laws.new-lies w p d r) r (omega arith))
+    rw e (video_is rbx mb eb (ap video (video-laws.new_is w (layout_of p))) (video-laws.new_lies w p d r) r (omega arith))
 
 pub new_is : (w : List Float) (s : TStdStream) (base depth : ℕ) (t : FluidFifo) → 0 < depth → base + 8 * depth ≤ length w → t ≡ new s.model.rx_bps
-    → ChainIs w s base depth 0 t main-work.newBranch video-work.newBranch (new_chain s)
+    → ChainIs w s base depth 0 t main-work.new_branch video-work.new_branch (new_chain s)
 unfolding new_chain
 new_is w s base depth t d r e = chain_of_lem e (new_by w s s.model.branch s.pid base depth refl d r)
 
@@ -119,8 +119,8 @@ module _ (w u : List Float) (pid base depth k : ℕ) (b : MainBranch) (v : Video
   unfolding step_branch main_of
   main_stepped size y r e l room units q =
       let p = main_model size base depth in
-      let n : main-counts.unitsIn (main_of w p b) ≤ k = rw (← e) at units in
-      let a = q.steps (main-laws.lies-ready w p b slot (record { lies = l; units = omega arith; slots = hs })) in
+      let n : main-counts.units_in (main_of w p b) ≤ k = rw (← e) at units in
+      let a = q.steps (main-laws.lies_ready w p b slot (record { lies = l; units = omega arith; slots = hs })) in
       let c = main-counts.step_counts (float size) depth d end time (main_of w p b) in
       let o : SameOutside base (base + 8 * depth) w u = outside_wider (omega arith) (omega arith) a.outside in
       rw (← e) (record { full = a.full; slots = a.slots; outside = o; branch = main_is size (ap main a.state) a.lies (rw o.size room) (omega arith) })
@@ -132,8 +132,8 @@ module _ (w u : List Float) (pid base depth k : ℕ) (b : MainBranch) (v : Video
   video_stepped rbx mb eb y r e l room units q =
       let p = video_model rbx mb eb base depth in
       let x = chain_of w (layout_of p) v in
-      let n : video-counts.unitsIn x.branch ≤ k = rw (← e) at units in
-      let a = q.steps (video-laws.lies-ready w p v slot (record { room = room; lies = l; units = omega arith; slot = hs })) in
+      let n : video-counts.units_in x.branch ≤ k = rw (← e) at units in
+      let a = q.steps (video-laws.lies_ready w p v slot (record { room = room; lies = l; units = omega arith; slot = hs })) in
       let c = video-counts.step_counts (rates_of (layout_of p)) depth d end time x in
       let o : SameOutside base (base + 8 * depth) w u = outside_wider (omega arith) (omega arith) a.outside in
       rw (← e) (record { full = a.full; slots = a.slots; outside = o; branch = video_is rbx mb eb (ap video a.state) a.lies (rw o.size room) (omega arith) })
@@ -228,7 +228,7 @@ module _ {w : List Float} {s : TStdStream} {base depth k : ℕ} {t : FluidFifo} 
   unfolding stats_of
   stats_main h =
       let m = stream_model s base depth in
-      let f = main-laws.figures-of w m.main b in
+      let f = main-laws.figures_of_lem w m.main b in
       rw (← main_here w m b v x.branch h c.branch, ← c.tb, f.0, f.1.0, f.1.1)
 
   pub stats_video : (stream_model s base depth).is_video ≡ true
@@ -244,5 +244,5 @@ module _ {w : List Float} {s : TStdStream} {base depth k : ℕ} {t : FluidFifo} 
   unfolding stats_of chain_of
   stats_video h =
       let m = stream_model s base depth in
-      let f = video-laws.figures-of w (layout_of m.video) v in
+      let f = video-laws.figures_of_lem w (layout_of m.video) v in
       rw (← video_here w m b v x.branch h c.branch, ← c.tb, f.0.0, f.0.1, f.1.0, f.1.1)

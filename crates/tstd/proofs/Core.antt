@@ -97,7 +97,7 @@ module _ (c : TStdConfig) (l : List ℕ) (y : TsPacketLayout) (times : List Floa
   known = (layouts.found l y fit.found).known
 
   pub size_some : 188 ≤ y.packet_size
-  size_some = (layouts.known-size known).0
+  size_some = (layouts.known_size known).0
 
   pub from_few : from ≤ 524288
   from_few =
@@ -114,7 +114,7 @@ module _ (c : TStdConfig) (l : List ℕ) (y : TsPacketLayout) (times : List Floa
   pub packets_few : 188 * count ≤ 2 ^ 24
   packets_few =
       let e : length (read_at y (streams_read c) l).facts ≡ count = ap (λ (r : Read). length r.facts) (read_parts y (streams_read c) l) ∙ facts_length y (streams_read c) l 0 count in
-      omega (arith, facts_fit y (streams_read c) l (layouts.known-room known), fit.long)
+      omega (arith, facts_fit y (streams_read c) l (layouts.known_room known), fit.long)
 
   clock_room : holds c.clock_depth times from places ≡ true
   unfolding holds needed_of
@@ -152,13 +152,13 @@ module _ (c : TStdConfig) (l : List ℕ) (y : TsPacketLayout) (times : List Floa
     unfolding needed_of
     times_kept =
         let k = build_keeps y l count c.pcr_pid c.clock_depth times from places is in
-        zeroed_behind 0f _ times' times k.times-length k.behind
+        zeroed_behind 0f _ times' times k.times_length k.behind
 
     pub places_kept : zeroed 0 (needed_of c).places places' ≡ zeroed 0 (needed_of c).places places
     unfolding needed_of
     places_kept =
         let k = build_keeps y l count c.pcr_pid c.clock_depth times from places is in
-        zeroed_behind 0 _ places' places k.places-length k.places_behind
+        zeroed_behind 0 _ places' places k.places_length k.places_behind
 
     pub clock_refused : {before : TStdReport} {a : Answer} {x : Refusal} → built ≡ ClockAnswer.Refused x → a ≡ refused_answer before x → ReplayedAt c l y times places before a times' places'
     unfolding answer_for
@@ -189,8 +189,8 @@ module _ (c : TStdConfig) (l : List ℕ) (y : TsPacketLayout) (times : List Floa
             some_depth = omega (arith, fit.within.queue_depth.least);
             depth_few = fit.within.queue_depth.most;
             room = rw same_count (build_room y l count c.pcr_pid c.clock_depth times from places is shallow clock_room short n e);
-            window = layouts.known-room known;
-            size_few = (layouts.known-size known).1;
+            window = layouts.known_room known;
+            size_few = (layouts.known_size known).1;
             whole = refl;
             long = fit.long;
             within = rw same_count (build_bounded y l count c.pcr_pid c.clock_depth times from places is shallow clock_room short n e packets_few);

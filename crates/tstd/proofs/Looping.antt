@@ -34,7 +34,7 @@ use Rattle.scanner.specs.State.{idle}
 use Rattle.transport.specs.declared.Arrived.{Arrived}
 use Rattle.scanner.proofs.Steps.{new_is as scanner-new-is}
 use Rattle.model.specs.Chain.{new_chain, step_branch}
-use Rattle.model.specs.Replay.{State, started, full, refused_with, stream_at, chain_at}
+use Rattle.model.specs.Replay.{State, started, refused_with, stream_at, chain_at}
 use Rattle.tstd.specs.declared.moment.Moment.{Moment}
 use Rattle.tstd.specs.declared.moment.Times.{Times}
 use Rattle.tstd.specs.declared.front.SystemChain.{SystemChain}
@@ -113,7 +113,7 @@ module _ (g : Pass) (ready : Ready g) where
   first_chain i h = get_or-map new_chain (streams_of g.config) i unused_stream ∙ ap new_chain (stream_used g i h)
 
   pub loop_starts : (ts : List FluidFifo) (ss : List PesScanner) (ms : List MainBranch) (vs : List VideoBranch) (system : SystemChain) (times : Times) (sl : Slots)
-      → TbsOf g.config.streams 8 ts → ss ≡ replicate 8 idle → ms ≡ replicate 8 main-work.newBranch → vs ≡ replicate 8 video-work.newBranch → system ≡ new_system
+      → TbsOf g.config.streams 8 ts → ss ≡ replicate 8 idle → ms ≡ replicate 8 main-work.new_branch → vs ≡ replicate 8 video-work.new_branch → system ≡ new_system
       → (n : ℕ) → n ≡ suc g.last → times ≡ start_times (start_of_arrival g.work (clock_from g) g.places n) → sl ≡ empty_slots
       → Looping g ready 0 g.layout.sync_offset false g.work ts ss ms vs system times sl
   unfolding started new_system noted_found
@@ -129,7 +129,7 @@ module _ (g : Pass) (ready : Ready g) where
           vs_size = ap length ev;
           chains_size = length-map (streams_of g.config) new_chain ∙ streams_counted g ready;
           chains = λ i h.
-              rw (em, ev, get_d_replicate main-work.newBranch 8 i, get_d_replicate video-work.newBranch 8 i, first_chain i h)
+              rw (em, ev, get_d_replicate main-work.new_branch 8 i, get_d_replicate video-work.new_branch 8 i, first_chain i h)
               (new_is g.work (stream_at g.config i) (8 * depth_of g * i) (depth_of g) (get_or ts i unused_tb) ready.some_depth (in_work i h)
               (t.at i (let a = ready.few in omega arith)));
           scanners = λ c i h o. rw (ez, get_d_replicate idle 8 i) scanner-new-is;
@@ -200,7 +200,7 @@ module _ (g : Pass) (ready : Ready g) (isFull : Bool) (w : List Float) (ts : Lis
       ∙ rw (within_next w (clock_from g) g.places (suc g.last) t.arrival i) refl) in
       unparsed_turns g ready k w ts ss ms vs system t (unparsed_times t) sl L.state m L.now next h (unparsed_fails _ (header_at k at L _ x.header)) refl refl
 
-  pub skips_loop : {c t : Times} {at₀ k₀ at k : ℕ} → Passing g.recording g.layout.packet_size g.count owners c at₀ k₀ t at k
+  pub skips_loop : {c : Times} {at₀ k₀ : ℕ} {t : Times} {at k : ℕ} → Passing g.recording g.layout.packet_size g.count owners c at₀ k₀ t at k
       → Looping g ready (k₀ + 1) (at₀ + g.layout.packet_size) isFull w ts ss ms vs system c sl
       → Looping g ready (k + 1) (at + g.layout.packet_size) isFull w ts ss ms vs system t sl
   skips_loop no_more L = L
@@ -380,7 +380,7 @@ module _ (g : Pass) (ready : Ready g) (k at : ℕ) (isFull : Bool) (w : List Flo
       module _ (model : StreamModel) (is-model : model ≡ stream_model (stream_at g.config i) (8 * depth_of g * i) (depth_of g)) (u : List Float) (sl' : Slots) (ts' : List FluidFifo) (is-ts : ts' ≡ set ts i a.tb) where
         any_turn : (ms' : List MainBranch) (vs' : List VideoBranch) (b : MainBranch) (v : VideoBranch) (stFull : Bool)
             → StepIs w u (stream_at g.config i) (8 * depth_of g * i) (depth_of g) k (1 + 6 * i) sl₁ sl' (step_branch (stream_at g.config i).model.branch (depth_of g) a.delivered m.end times'.arrival.t0 (chain_at g.config s i).branch) stFull b v
-            → Replaced main-work.newBranch ms i b ms' → Replaced video-work.newBranch vs i v vs' → StreamTurn u ts' ms' vs' stFull sl'
+            → Replaced main-work.new_branch ms i b ms' → Replaced video-work.new_branch vs i v vs' → StreamTurn u ts' ms' vs' stFull sl'
         any_turn ms' vs' b v stFull x rm rv =
             record {
               turns = λ e.
@@ -392,45 +392,45 @@ module _ (g : Pass) (ready : Ready g) (k at : ℕ) (isFull : Bool) (w : List Flo
               outside = outside_then inv.now.outside (outside_wider (omega arith) (next_multiple (8 * depth_of g) i (stream_count g) moves.in_use) x.outside);
             }
 
-        pub main_turn : model.is_video ≡ false → (b : MainBranch) → b ≡ get_or ms i main-work.newBranch → (st : MainStepped)
+        pub main_turn : model.is_video ≡ false → (b : MainBranch) → b ≡ get_or ms i main-work.new_branch → (st : MainStepped)
             → main-work.StepOf w model.main b a.delivered m.end times'.arrival.t0 (1 + 6 * i) sl₁ st u sl'
             → (ms' : List MainBranch) → ms' ≡ set ms i st.branch → StreamTurn u ts' ms' vs st.full sl'
         main_turn kind b is_b st x ms' is-ms =
-            any_turn ms' vs st.branch (get_or vs i video-work.newBranch) st.full
+            any_turn ms' vs st.branch (get_or vs i video-work.new_branch) st.full
             (main_steps (inv.now.chains i moves.in_use) (omega arith) few_steps (rw is-model at kind) (rw (is-model, is_b) at x))
-            (rw is-ms (replaced_set main-work.newBranch ms i st.branch inv.now.ms_size near))
-            (replaced_none video-work.newBranch vs i inv.now.vs_size)
+            (rw is-ms (replaced_set main-work.new_branch ms i st.branch inv.now.ms_size near))
+            (replaced_none video-work.new_branch vs i inv.now.vs_size)
 
-        pub video_turn : model.is_video ≡ true → (v : VideoBranch) → v ≡ get_or vs i video-work.newBranch → (st : VideoStepped)
+        pub video_turn : model.is_video ≡ true → (v : VideoBranch) → v ≡ get_or vs i video-work.new_branch → (st : VideoStepped)
             → video-work.StepOf w model.video v a.delivered m.end times'.arrival.t0 (1 + 6 * i) sl₁ st u sl'
             → (vs' : List VideoBranch) → vs' ≡ set vs i st.branch → StreamTurn u ts' ms vs' st.full sl'
         video_turn kind v is-v st x vs' is-vs =
-            any_turn ms vs' (get_or ms i main-work.newBranch) st.branch st.full
+            any_turn ms vs' (get_or ms i main-work.new_branch) st.branch st.full
             (video_steps (inv.now.chains i moves.in_use) (omega arith) few_steps (rw is-model at kind) (rw (is-model, is-v) at x))
-            (replaced_none main-work.newBranch ms i inv.now.ms_size)
-            (rw is-vs (replaced_set video-work.newBranch vs i st.branch inv.now.vs_size near))
+            (replaced_none main-work.new_branch ms i inv.now.ms_size)
+            (rw is-vs (replaced_set video-work.new_branch vs i st.branch inv.now.vs_size near))
 
         -- the loop is left, or goes on, with what the `if`s leave in the variables
         module _ (u₂ : List Float) (e-u : u₂ ≡ u) where
-          pub main_refuses : model.is_video ≡ false → (b : MainBranch) → b ≡ get_or ms i main-work.newBranch → (st : MainStepped)
+          pub main_refuses : model.is_video ≡ false → (b : MainBranch) → b ≡ get_or ms i main-work.new_branch → (st : MainStepped)
               → main-work.StepOf w model.main b a.delivered m.end times'.arrival.t0 (1 + 6 * i) sl₁ st u sl'
               → (r : RanState) → r.full ≡ true → st.full ≡ true → r.step ≡ k → r.owner ≡ i → RanTo g r u₂
           main_refuses kind b is_b st x r ef e es eo = rw e-u (stream_refuses (main_turn kind b is_b st x (set ms i st.branch) refl) r ef e es eo)
 
-          pub video_refuses : model.is_video ≡ true → (v : VideoBranch) → v ≡ get_or vs i video-work.newBranch → (st : VideoStepped)
+          pub video_refuses : model.is_video ≡ true → (v : VideoBranch) → v ≡ get_or vs i video-work.new_branch → (st : VideoStepped)
               → video-work.StepOf w model.video v a.delivered m.end times'.arrival.t0 (1 + 6 * i) sl₁ st u sl'
               → (r : RanState) → r.full ≡ true → st.full ≡ true → r.step ≡ k → r.owner ≡ i → RanTo g r u₂
           video_refuses kind v is-v st x r ef e es eo = rw e-u (stream_refuses (video_turn kind v is-v st x (set vs i st.branch) refl) r ef e es eo)
 
           module _ (ts₂ : List FluidFifo) (e-ts : ts₂ ≡ ts') (ss₂ : List PesScanner) (e-ss : ss₂ ≡ ss') (ms₂ : List MainBranch) (vs₂ : List VideoBranch) (system₂ : SystemChain) (e-system : system₂ ≡ system) (firsts₂ : List ℕ) (figures₂ : List Float) (e-slots : slots firsts₂ figures₂ ≡ sl') (full₂ : Bool) where
-            pub main_again : model.is_video ≡ false → (b : MainBranch) → b ≡ get_or ms i main-work.newBranch → (st : MainStepped)
+            pub main_again : model.is_video ≡ false → (b : MainBranch) → b ≡ get_or ms i main-work.new_branch → (st : MainStepped)
                 → main-work.StepOf w model.main b a.delivered m.end times'.arrival.t0 (1 + 6 * i) sl₁ st u sl'
                 → ms₂ ≡ set ms i st.branch → vs₂ ≡ vs → full₂ ≡ st.full → full₂ ≡ false
                 → LoopInv g (k + 1) (at + g.layout.packet_size) full₂ u₂ ts₂ ss₂ ms₂ vs₂ system₂ times' (slots firsts₂ figures₂)
             main_again kind b is_b st x em ev ef e =
                 record { ready = ready; loop = rw (e-u, e-ts, e-ss, e-system, e-slots, ef, ev) (stream_again (main_turn kind b is_b st x ms₂ em) (sym ef ∙ e)) }
 
-            pub video_again : model.is_video ≡ true → (v : VideoBranch) → v ≡ get_or vs i video-work.newBranch → (st : VideoStepped)
+            pub video_again : model.is_video ≡ true → (v : VideoBranch) → v ≡ get_or vs i video-work.new_branch → (st : VideoStepped)
                 → video-work.StepOf w model.video v a.delivered m.end times'.arrival.t0 (1 + 6 * i) sl₁ st u sl'
                 → vs₂ ≡ set vs i st.branch → ms₂ ≡ ms → full₂ ≡ st.full → full₂ ≡ false
                 → LoopInv g (k + 1) (at + g.layout.packet_size) full₂ u₂ ts₂ ss₂ ms₂ vs₂ system₂ times' (slots firsts₂ figures₂)

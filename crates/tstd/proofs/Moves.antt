@@ -58,9 +58,9 @@ unfolding contains
 contains_member [] x = refl
 contains_member (p ∷ l) x = ap (λ (b : Bool). eqb p x || b) (contains_member l x)
 
-read_stream : (c : TStdConfig) (pid : ℕ) → is_stream (streams_read c) pid ≡ ownership.isStream (owner_of c pid)
+read_stream : (c : TStdConfig) (pid : ℕ) → is_stream (streams_read c) pid ≡ ownership.is_stream (owner_of c pid)
 unfolding is_stream
-read_stream c pid = sym (contains_member (stream_pids c) pid) ∙ sym (ownership.is-stream (stream_pids c) _ pid)
+read_stream c pid = sym (contains_member (stream_pids c) pid) ∙ sym (ownership.is_stream_lem (stream_pids c) _ pid)
 
 -- of two streams that own their PIDs a packet of the one's is none of the other's
 not_owned : (c : TStdConfig) (pid i j : ℕ) → owner_of c (stream_at c j).pid ≡ Owner.Stream j → owner_of c pid ≡ Owner.Stream i → j ≢ i → pid ≡ (stream_at c j).pid → ⊥
@@ -69,9 +69,9 @@ not_owned c pid i j own o n e =
     let h : j ≡ i = cc in
     n h
 
-not_system : (c : TStdConfig) (pid j : ℕ) → owner_of c (stream_at c j).pid ≡ Owner.Stream j → ownership.isStream (owner_of c pid) ≡ false → pid ≡ (stream_at c j).pid → ⊥
+not_system : (c : TStdConfig) (pid j : ℕ) → owner_of c (stream_at c j).pid ≡ Owner.Stream j → ownership.is_stream (owner_of c pid) ≡ false → pid ≡ (stream_at c j).pid → ⊥
 not_system c pid j own o e =
-    let f : ownership.isStream (owner_of c pid) ≡ true = ap ownership.isStream (ap (owner_of c) e ∙ own) in
+    let f : ownership.is_stream (owner_of c pid) ≡ true = ap ownership.is_stream (ap (owner_of c) e ∙ own) in
     true≢false (sym f ∙ o)
 
 clock_within : (g : Pass) (ready : Ready g) (p : ℕ) → IntervalWithin (covering p (clock_of g))
@@ -146,7 +146,7 @@ module _ (g : Pass) (ready : Ready g) (k : ℕ) (w : List Float) (ts : List Flui
 
       fact_is : fact_at g.layout (streams_read g.config) g.recording k ≡ parsed x runs
       fact_is =
-          fact_stream g.layout g.recording k x p.parse (streams_read g.config) (read_stream g.config x.pid ∙ ap ownership.isStream o)
+          fact_stream g.layout g.recording k x p.parse (streams_read g.config) (read_stream g.config x.pid ∙ ap ownership.is_stream o)
           ∙ ap (λ (z : Open). parsed x (runs_in z (length payload))) (opens_own g.layout g.recording k x p.parse)
 
       not_end : m.end ≡ false
@@ -247,7 +247,7 @@ module _ (g : Pass) (ready : Ready g) (k : ℕ) (w : List Float) (ts : List Flui
               vs_size = now.vs_size;
               chains_size = now.chains_size;
               chains = λ j l. chain_more (now.chains j l) (omega arith);
-              scanners = λ c j l r. now.scanners (omega arith) j l r ∙ ap scanner_of (sym (opens_other g.layout g.recording k x p.parse _ (λ z. not_system g.config x.pid j r (ap ownership.isStream o) z)));
+              scanners = λ c j l r. now.scanners (omega arith) j l r ∙ ap scanner_of (sym (opens_other g.layout g.recording k x p.parse _ (λ z. not_system g.config x.pid j r (ap ownership.is_stream o) z)));
               system_tb = ap (λ (z : SystemChain). z.tb) e ∙ rw (times_are, now.system_tb, come.t0, come.t1) refl;
               system_branch = ap (λ (z : SystemChain). z.branch) e ∙ rw (times_are, now.system_tb, now.system_branch, come.t0, come.t1, come.interval) refl;
               first = first_is;
@@ -258,7 +258,7 @@ module _ (g : Pass) (ready : Ready g) (k : ℕ) (w : List Float) (ts : List Flui
           }
         where
           off : is_stream (streams_read g.config) x.pid ≡ false
-          off = read_stream g.config x.pid ∙ ap ownership.isStream o
+          off = read_stream g.config x.pid ∙ ap ownership.is_stream o
 
     -- of nobody
     pub nobody_turns : owner_of g.config x.pid ≡ Owner.Nobody → Turned g ready k s w ts ss ms vs system times' sl
@@ -266,7 +266,7 @@ module _ (g : Pass) (ready : Ready g) (k : ℕ) (w : List Float) (ts : List Flui
     nobody_turns o =
         record {
           state = timed;
-          step = step_owned _ (fact_other g.layout g.recording k x p.parse (streams_read g.config) (read_stream g.config x.pid ∙ ap ownership.isStream o)) ∙ rw o refl;
+          step = step_owned _ (fact_other g.layout g.recording k x p.parse (streams_read g.config) (read_stream g.config x.pid ∙ ap ownership.is_stream o)) ∙ rw o refl;
           at = record {
             outside = now.outside;
             ts_size = now.ts_size;
@@ -275,7 +275,7 @@ module _ (g : Pass) (ready : Ready g) (k : ℕ) (w : List Float) (ts : List Flui
             vs_size = now.vs_size;
             chains_size = now.chains_size;
             chains = λ j l. chain_more (now.chains j l) (omega arith);
-            scanners = λ c j l r. now.scanners (omega arith) j l r ∙ ap scanner_of (sym (opens_other g.layout g.recording k x p.parse _ (λ z. not_system g.config x.pid j r (ap ownership.isStream o) z)));
+            scanners = λ c j l r. now.scanners (omega arith) j l r ∙ ap scanner_of (sym (opens_other g.layout g.recording k x p.parse _ (λ z. not_system g.config x.pid j r (ap ownership.is_stream o) z)));
             system_tb = now.system_tb;
             system_branch = now.system_branch;
             first = first_is;

@@ -56,13 +56,13 @@ get_d_any (x ∷ l) (suc i) d d' h = get_d_any l i d d' (omega arith)
 module _ (ts : List FluidFifo) (bs : List MainBranch) (vs : List VideoBranch) where
   -- the row of stream i
   abbrev pub row_at : TStdStream → ℕ → TStdChainStats
-  row_at s i = stream_row s (get_or ts i unused_tb) (get_or bs i main-work.newBranch) (get_or vs i video-work.newBranch)
+  row_at s i = stream_row s (get_or ts i unused_tb) (get_or bs i main-work.new_branch) (get_or vs i video-work.new_branch)
 
   -- as the code reads it, with what an array gives behind its end
   pub row_read : (s : TStdStream) (i : ℕ) (t : FluidFifo) (b : MainBranch) (v : VideoBranch) (x : TStdChainStats) → i < length ts → i < length bs → i < length vs
       → x ≡ stream_row s (get_or ts i t) (get_or bs i b) (get_or vs i v) → x ≡ row_at s i
   row_read s i t b v x ht hb hv e =
-      e ∙ rw (get_d_any ts i t unused_tb ht, get_d_any bs i b main-work.newBranch hb, get_d_any vs i v video-work.newBranch hv)
+      e ∙ rw (get_d_any ts i t unused_tb ht, get_d_any bs i b main-work.new_branch hb, get_d_any vs i v video-work.new_branch hv)
 
   pub rows_length : (i : ℕ) (ss : List TStdStream) → length (rows_from i ss ts bs vs) ≡ length ss
   unfolding rows_from
@@ -167,7 +167,7 @@ module _ (c : TStdConfig) (s : State) (ts : List FluidFifo) (bs : List MainBranc
   -- the rows are the figures of the definition's state s
   pub rows_are : (w : List Float) (depth k : ℕ) (system : SystemChain)
       → ((i : ℕ) → i < c.stream_count
-      → ChainIs w (get_or c.streams i unused_stream) (8 * depth * i) depth k (get_or ts i unused_tb) (get_or bs i main-work.newBranch) (get_or vs i video-work.newBranch) (get_or s.chains i (new_chain unused_stream)))
+      → ChainIs w (get_or c.streams i unused_stream) (8 * depth * i) depth k (get_or ts i unused_tb) (get_or bs i main-work.new_branch) (get_or vs i video-work.new_branch) (get_or s.chains i (new_chain unused_stream)))
       → system.tb ≡ s.sys_tb → system.branch ≡ s.sys
       → rows_from 0 (streams_of c) ts bs vs ++ system_rows c system ≡ stream_stats 0 (streams_of c) c s ++ system_stats c s
   unfolding system_rows system_row system_stats

@@ -9,7 +9,7 @@ use Rattle.packet.specs.Layout.{window_of}
 use Rattle.header.specs.declared.PacketHeader.{PacketHeader}
 use Rattle.header.specs.Header.{header_of}
 use Rattle.header.proofs.Headers.{Fails, is_truncated, is_bad_sync}
-use Rattle.recording.specs.Read.{unparsed, parsed, packet_at, opens_at, fact_at, fact_by}
+use Rattle.recording.specs.Read.{unparsed, packet_at, opens_at, fact_at, fact_by}
 use Rattle.recording.proofs.Facts.{opens_by, fact_by_lem}
 use Rattle.arrival.specs.declared.PacketArrival.{PacketArrival}
 use Rattle.arrival.specs.Times.{arrival_at, covering}
@@ -94,7 +94,7 @@ module _ (g : Pass) (ready : Ready g) where
       record {
         at = a;
         t0 = p.1;
-        t1 = rw f at a.t1-is;
+        t1 = rw f at a.t1_is;
         interval = rw f at (end_interval g.work (clock_from g) g.places g.last ready.room a);
       }
 

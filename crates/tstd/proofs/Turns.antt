@@ -1,5 +1,5 @@
 -- The turns of pass 2: from what the arrays, the work and the slots are behind k steps, to what they are behind one more.
-use Rattle.std.proofs.Common.{◌≡◌, ℕ, suc, ◌+◌, ◌-◌, ◌*◌, ◌<◌, ◌≤◌, Bool, true, false, eqb, ltb, ◌≢◌, ◌⊎◌, List, ◌++◌, map, length, get_or, set, sym, refl, ap, ◌∙◌, subst, inl, inr, arith, length-set, get_or-set_other, get_or-set_same, ltb-false, ltb-true, eqb-true}
+use Rattle.std.proofs.Common.{◌≡◌, ℕ, suc, ◌+◌, ◌*◌, ◌<◌, ◌≤◌, Bool, true, false, eqb, ltb, ◌≢◌, ◌⊎◌, List, ◌++◌, map, length, get_or, set, sym, refl, ap, ◌∙◌, subst, inl, inr, arith, length-set, get_or-set_other, get_or-set_same, ltb-false, ltb-true, eqb-true}
 use lib.Ieee.{Float}
 use borrow.Author.Tests.{eqb-false}
 use Rattle.scanner.specs.State.{idle, scanner_of}
@@ -133,7 +133,7 @@ module _ (g : Pass) (ready : Ready g) (k : ℕ) (w u : List Float) (ts ts' : Lis
   noted : sl' ≡ noted_all (1 + 6 * i) (m.before ++ st.events) sl
   noted = x.slots ∙ ap (noted_all (1 + 6 * i) st.events) m.noted ∙ sym (noted_all_append_lem (1 + 6 * i) m.before st.events sl)
 
-  module _ (rt : Replaced unused_tb ts i t ts') (rs : Replaced idle ss i sc ss') (rm : Replaced main-work.newBranch ms i b ms') (rv : Replaced video-work.newBranch vs i v vs') where
+  module _ (rt : Replaced unused_tb ts i t ts') (rs : Replaced idle ss i sc ss') (rm : Replaced main-work.new_branch ms i b ms') (rv : Replaced video-work.new_branch vs i v vs') where
     chains_at : (j : ℕ) → j < stream_count g → (j ≡ i) ⊎ (j ≢ i) → ChainAt g (suc k) u ts' ms' vs' after j
     chains_at j h (inl e) =
         rw (e, rt.same, rm.same, rv.same)

@@ -42,7 +42,7 @@ stream_row s t b v = row_by s.model.branch s.pid t b v
 unfoldable pub rows_from : ℕ → List TStdStream → List FluidFifo → List MainBranch → List VideoBranch → List TStdChainStats
 rows_from i [] ts bs vs = []
 rows_from i (s ∷ ss) ts bs vs =
-    stream_row s (slice_index_or ts i unused_tb) (slice_index_or bs i main-work.newBranch) (slice_index_or vs i video-work.newBranch) ∷ rows_from (suc i) ss ts bs vs
+    stream_row s (slice_index_or ts i unused_tb) (slice_index_or bs i main-work.new_branch) (slice_index_or vs i video-work.new_branch) ∷ rows_from (suc i) ss ts bs vs
 
 unfoldable pub system_row : TStdConfig → SystemChain → TStdChainStats
 system_row c s =

@@ -90,7 +90,7 @@ pub data Reached (g : Pass) : ℕ → State → Type 0 where
 -- the chain of stream i
 abbrev pub ChainAt : Pass → ℕ → List Float → List FluidFifo → List MainBranch → List VideoBranch → State → ℕ → Type 0
 ChainAt g k w ts ms vs s i =
-    ChainIs w (stream_at g.config i) (8 * depth_of g * i) (depth_of g) k (slice_index_or ts i unused_tb) (slice_index_or ms i main-work.newBranch) (slice_index_or vs i video-work.newBranch)
+    ChainIs w (stream_at g.config i) (8 * depth_of g * i) (depth_of g) k (slice_index_or ts i unused_tb) (slice_index_or ms i main-work.new_branch) (slice_index_or vs i video-work.new_branch)
     (chain_at g.config s i)
 
 -- behind k steps the state is s

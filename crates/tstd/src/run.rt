@@ -13,7 +13,7 @@ use profile::config::TStdConfig;
 use scanner::PesScanner;
 
 // The state behind the last step. Full: a push of the step met a full queue; step counts the packets and then the ends.
-#[derive(Drop)]
+#[derive(Clone, Copy)]
 pub struct Ran {
     pub full: bool,
     pub step: usize,

@@ -9,7 +9,7 @@ use profile::config::{TStdConfig, TStdStream};
 use profile::model::TStdBranch;
 
 // The model of the other kind is not used.
-#[derive(Drop)]
+#[derive(Clone, Copy)]
 pub struct StreamModel {
     pub is_video: bool,
     pub pid: u16,

@@ -1,0 +1,5 @@
+-- `feed` meets its contract. Assumes nothing.
+use Rattle.tstd.proofs.front.feed.Goals as goal
+
+pub returns : goal.returns
+returns c = rw (← c.payload-payload.ensures) c.feed.ensures

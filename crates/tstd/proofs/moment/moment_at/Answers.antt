@@ -1,0 +1,17 @@
+-- `moment_at` meets its contract: the end of a stream, and a packet that does not parse or does. Assumes nothing.
+use Rattle.std.proofs.Common.{sym, ◌∙◌}
+use Rattle.tstd.proofs.Moments.{moment_end, moment_unparsed, moment_parsed, pid_small}
+use Rattle.tstd.proofs.moment.moment_at.Goals as goal
+
+pub returns-then-count-k : goal.returns-then-count-k
+returns-then-count-k c p o = sym (moment_end _ _ _ _ c.if-count-k.true)
+
+pub returns-in-Unparsed : goal.returns-in-Unparsed
+returns-in-Unparsed c p o = sym (moment_unparsed _ _ _ _ _ c.if-count-k.false c.read.ensures c.in-Unparsed.is)
+
+pub returns-in-Parsed : goal.returns-in-Parsed
+returns-in-Parsed c p o =
+    let header = c.read.ensures in
+    let is = c.in-Parsed.is in
+    let small = pid_small _ _ _ _ _ header is in
+    sym (moment_parsed _ _ _ _ _ _ _ _ _ c.if-count-k.false header is (c.owner_of.ensures small ∙ o.index _ small))

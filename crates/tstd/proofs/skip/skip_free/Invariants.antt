@@ -1,0 +1,11 @@
+-- `skip_free` meets its contract. The invariant: the packets so far are nobody's, behind one another. The measure: the packets left.
+-- Assumes nothing.
+use Rattle.tstd.specs.Skips.{Skips}
+use Rattle.std.proofs.Common.{◌-◌}
+use Rattle.tstd.proofs.skip.skip_free.Given as goal
+
+abbrev pub invariant-loop-packet : goal.invariant-loop-packet
+invariant-loop-packet l = Skips l.bytes l.size l.count l.owners l.initial.times l.at l.k l.times l.place l.packet
+
+abbrev pub decreases-loop-packet : goal.decreases-loop-packet
+decreases-loop-packet l = l.count - l.packet
