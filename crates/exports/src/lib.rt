@@ -1,4 +1,6 @@
-// The C boundary of the replay: numbers and slices of numbers only (`rt staticlib exports`).
+// The C boundary of the replay: numbers and slices of numbers only. `exports_c` has it as a static library.
+#![tactic(auto)]
+
 ghost use Rattle.exports.specs.Exports.{Answered, Exported};
 
 use answer::Answer;

@@ -1,5 +1,8 @@
-// The functions under the replay, each behind C names for the comparison with the Rust (`rt staticlib leaves`): numbers, and
-// words stored from the start of a slice that the caller lends. A slice without room for them stays as it was.
+// The functions under the replay, each behind C names for the comparison with the Rust (`leaves_c` has them as a static
+// library): numbers, and words stored from the start of a slice that the caller lends. A slice without room for them stays
+// as it was.
+#![tactic(auto)]
+
 pub mod clock_leaf;
 pub mod fifo_leaf;
 pub mod model_leaf;

@@ -9,7 +9,7 @@ use packet::{
     MaybeSpliceCountdown,
 };
 
-#[derive(Drop)]
+#[derive(Clone, Copy)]
 pub(crate) struct Part {
     pub(crate) on: bool,
     pub(crate) first: u64,

@@ -1,5 +1,7 @@
 // The line program of document 01 but for its reading and writing: the text for a recording of up to 32,768 bytes, replayed for one
 // audio stream.
+#![tactic(auto)]
+
 ghost use Rattle.std.specs.Prelude.{◌≡◌, ◌≤◌, length, take};
 ghost use Rattle.report.specs.Report.{empty_report};
 ghost use Rattle.tstd.specs.Core.{answer_for};

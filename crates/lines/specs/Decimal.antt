@@ -1,7 +1,6 @@
 -- Numbers as text. A text is the list of its ASCII codes.
 use Rattle.std.specs.Prelude.{ℕ, zero, suc, ◌+◌, ◌/◌, ◌%◌, cond, List, [], ◌∷◌, ◌++◌, ltb, ℤ, pos, negsuc, Float}
 use Prim.Native.Char.{code}
-use Prim.Native.String as String
 use Prim.Native.String.{String}
 use Rattle.std.specs.Float.Ieee.{to_signed}
 use Rattle.ieee.specs.Binary64.{◌⊗◌, 1000000f}

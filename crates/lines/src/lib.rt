@@ -1,4 +1,6 @@
 // The text of an answer, in lines of decimal fields that are parted by commas.
+#![tactic(auto)]
+
 ghost use Rattle.std.specs.Prelude.{◌≡◌, [], ◌∷◌, ◌++◌, ◌≤◌, min, length};
 ghost use Rattle.lines.specs.Decimal.{ascii, decimal, microseconds};
 ghost use Rattle.lines.specs.Text.{refused_line, report_line, figure_text, fields_line, chain_line, violation_lines, chain_lines, text_of};

@@ -20,7 +20,7 @@ const SYSTEM_PIDS: usize = 53;
 const MOST_PID: u64 = 65535;
 
 // Number 0 is a profile that was read; with another number the configuration is the default, and says nothing.
-#[derive(Drop)]
+#[derive(Clone, Copy)]
 pub struct ProfileAnswer {
     pub code: Code,
     pub config: TStdConfig,

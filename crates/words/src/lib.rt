@@ -1,5 +1,7 @@
 // The words of the C boundary: a profile read from words, and answer, chain row and report told in words. A number is its
 // word; a figure in seconds is the bits of its binary64.
+#![tactic(auto)]
+
 pub mod answer_words;
 mod bits;
 pub mod config_words;

@@ -1,0 +1,11 @@
+-- `clock_part` meets its contract: each arm is a case of `clock_part`. Assumes nothing.
+use Rattle.leaves.specs.Packet.{clock_part}
+use Rattle.leaves.proofs.parts.clock_part.Goals as goal
+
+pub returns-in-Present : goal.returns-in-Present
+unfolding clock_part
+returns-in-Present c = rw (c.in-Present.is, c.present.ensures, c.plus_one-in-Present.ensures, c.plus_one.ensures)
+
+pub returns-in-Absent : goal.returns-in-Absent
+unfolding clock_part
+returns-in-Absent c = rw (c.in-Absent.is, c.no_part.ensures)

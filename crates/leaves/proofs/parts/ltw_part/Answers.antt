@@ -1,0 +1,12 @@
+-- `ltw_part` meets its contract: each arm is a case of `ltw_part`. Assumes nothing.
+use Rattle.leaves.specs.Packet.{ltw_part}
+use Rattle.leaves.proofs.parts.ltw_part.Goals as goal
+
+pub returns-in-Present : goal.returns-in-Present
+unfolding ltw_part
+returns-in-Present c =
+    rw (c.in-Present.is, c.present.ensures, c.plus_one-in-Present.ensures, c.plus_one.ensures, c.flag.ensures.0)
+
+pub returns-in-Absent : goal.returns-in-Absent
+unfolding ltw_part
+returns-in-Absent c = rw (c.in-Absent.is, c.no_part.ensures)
