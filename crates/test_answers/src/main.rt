@@ -1,8 +1,12 @@
 // Answers of the unchanged Rust (data/answers.bin; README.md says how they were made and in which form), each replayed through the C
 // boundary and compared word by word. A case is given by the list from its first byte on.
+#![tactic(auto)]
+
 ghost use Rattle.std.specs.Prelude.{◌≡◌, ◌*◌, ◌<◌, ◌≤◌, length};
 
-use libc::STDOUT_FILENO;
+use std::fs::File;
+use std::io;
+use std::io::Read;
 
 // Room for the list, and for the work of any case in it.
 const LIST: usize = 350000;
@@ -16,7 +20,7 @@ const BEFORE: u64 = 99;
 
 const NEGATIVE_ZERO: u64 = 9223372036854775808;
 
-#[derive(Drop)]
+#[derive(Clone, Copy)]
 struct Seen {
     same: bool,
     number: usize,
@@ -25,19 +29,11 @@ struct Seen {
 }
 
 // How many cases were equal, by number, and where in the list they end.
-#[derive(Drop)]
+#[derive(Clone, Copy)]
 struct Tally {
     counts: [u64; 11],
     cases: u64,
     bytes: usize,
-}
-
-fn text(t: &[u8]) {
-    io::write_all(STDOUT_FILENO, t);
-}
-
-fn number(n: u64) {
-    io::print_decimal(STDOUT_FILENO, n);
 }
 
 fn wide(b: u8) -> u64
@@ -190,20 +186,17 @@ fn case(list: &[u8]) -> Seen
     }
 }
 
-fn print_count(refusal: usize, count: u64) {
-    text(b"number ");
-    number(refusal as u64);
-    text(b": ");
-    number(count);
-    text(b"\n");
+fn print_count(rt: &impl Print, refusal: usize, count: u64) -> io::Result<()> {
+    println!(rt; "number {refusal}: {count}")
 }
 
-fn print_counts(counts: [u64; 11]) {
+fn print_counts(rt: &impl Print, counts: [u64; 11]) -> io::Result<()> {
     let mut i = 0;
     while i < 11 {
-        print_count(i, counts[i]);
+        print_count(rt, i, counts[i])?;
         i += 1;
     }
+    Ok(())
 }
 
 // The cases behind the list's first word, up to one that differs or is cut.
@@ -233,41 +226,35 @@ fn replay_all(list: &[u8], total: u64) -> Tally
     }
 }
 
-fn print_all(list: &[u8]) {
+fn print_all(rt: &impl Print, list: &[u8]) -> io::Result<()> {
     let total = word(list, 0);
     if list.len() < 8 {
-        text(b"the list is cut\n");
-        return;
+        return println!(rt; "the list is cut");
     }
     if total == 0 {
-        text(b"the list is empty\n");
-        return;
+        return println!(rt; "the list is empty");
     }
     let tally = replay_all(list, total);
-    text(b"cases ");
-    number(tally.cases);
-    text(b"\n");
+    let cases = tally.cases;
+    println!(rt; "cases {cases}")?;
     let counts = tally.counts;
-    print_counts(counts);
+    print_counts(rt, counts)?;
     if tally.cases != total {
-        text(b"the next case differs or is cut\n");
-        return;
+        return println!(rt; "the next case differs or is cut");
     }
     if tally.bytes != list.len() {
-        text(b"the list has bytes behind its last case\n");
-        return;
+        return println!(rt; "the list has bytes behind its last case");
     }
-    text(b"all equal\n");
+    println!(rt; "all equal")
 }
 
-fn main() {
-    let fd = os::open_read(b"answers.bin");
-    if fd < 0 {
-        text(b"there is no list\n");
-        return;
+fn main(rt: HostRuntime) -> io::Result<()> {
+    match File::open(&rt, "answers.bin") {
+        Err(_) => println!(rt; "there is no list"),
+        Ok(file) => {
+            let mut list = Vec::new(rt.alloc());
+            file.take(LIST as u64).read_to_end(&mut list)?;
+            print_all(&rt, &list)
+        }
     }
-    let mut list = [0u8; LIST];
-    let n = io::read_full(fd, &mut list);
-    libc::close(fd);
-    print_all(&list[..n]);
 }

@@ -1,179 +1,177 @@
 // Layouts, windows and parses of small recordings, a line for each: the figures are those of the Rust's `packet.rs`.
+#![tactic(auto)]
+
 ghost use Rattle.std.specs.Prelude.{◌≡◌, length};
 
-use libc::STDOUT_FILENO;
 use packet::{
     AdaptationField, AdaptationFieldExtension, Detected, MaybeAdaptationField, MaybeClockReference,
     MaybeExtension, MaybeLtw, MaybePiecewiseRate, MaybePrivateData, MaybeSeamlessSplice,
     MaybeSpliceCountdown, Parse, TsPacket, TsPacketLayout,
 };
+use std::io;
 
-fn text(t: &[u8]) {
-    io::write_all(STDOUT_FILENO, t);
+fn text(rt: &impl Print, t: &str) -> io::Result<()> {
+    rt.print(t)
 }
 
-fn number(n: u64) {
-    io::write_all(STDOUT_FILENO, b",");
-    io::print_decimal(STDOUT_FILENO, n);
+fn number(rt: &impl Print, n: u64) -> io::Result<()> {
+    print!(rt; ",{n}")
 }
 
-fn mark(b: bool) {
-    if b {
-        number(1);
-    } else {
-        number(0);
-    }
+fn mark(rt: &impl Print, b: bool) -> io::Result<()> {
+    if b { number(rt, 1) } else { number(rt, 0) }
 }
 
-fn byte(b: u8) {
-    number(b as u64);
+fn byte(rt: &impl Print, b: u8) -> io::Result<()> {
+    number(rt, b as u64)
 }
 
-fn size(n: usize) {
-    number(n as u64);
+fn size(rt: &impl Print, n: usize) -> io::Result<()> {
+    number(rt, n as u64)
 }
 
-fn line() {
-    io::write_all(STDOUT_FILENO, b"\n");
+fn line(rt: &impl Print) -> io::Result<()> {
+    rt.print("\n")
 }
 
-fn layout(buf: &[u8]) {
+fn layout(rt: &impl Print, buf: &[u8]) -> io::Result<()> {
     match packet::detect_packet_layout(buf) {
         Detected::Found(y) => {
-            text(b"layout");
-            size(y.packet_size);
-            size(y.sync_offset);
+            text(rt, "layout")?;
+            size(rt, y.packet_size)?;
+            size(rt, y.sync_offset)?;
         }
-        Detected::Nothing => text(b"nothing"),
+        Detected::Nothing => text(rt, "nothing")?,
     }
-    line();
+    line(rt)
 }
 
 // The length of packet k's window, and its first byte.
-fn window(buf: &[u8], y: TsPacketLayout, k: usize) {
+fn window(rt: &impl Print, buf: &[u8], y: TsPacketLayout, k: usize) -> io::Result<()> {
     let w = packet::window(buf, y, k);
-    text(b"window");
-    size(w.len());
+    text(rt, "window")?;
+    size(rt, w.len())?;
     if 0 < w.len() {
-        byte(w[0]);
+        byte(rt, w[0])?;
     }
-    line();
+    line(rt)
 }
 
-fn clock(c: MaybeClockReference) {
+fn clock(rt: &impl Print, c: MaybeClockReference) -> io::Result<()> {
     match c {
-        MaybeClockReference::Absent => text(b",-"),
+        MaybeClockReference::Absent => text(rt, ",-"),
         MaybeClockReference::Present(r) => {
-            number(r.base);
-            number(r.extension as u64);
+            number(rt, r.base)?;
+            number(rt, r.extension as u64)
         }
     }
 }
 
 // Whether the countdown is below 0, and whether it is -5.
-fn countdown(c: MaybeSpliceCountdown) {
+fn countdown(rt: &impl Print, c: MaybeSpliceCountdown) -> io::Result<()> {
     match c {
-        MaybeSpliceCountdown::Absent => text(b",-"),
+        MaybeSpliceCountdown::Absent => text(rt, ",-"),
         MaybeSpliceCountdown::Present(n) => {
-            mark(n < 0);
-            mark(n == -5);
+            mark(rt, n < 0)?;
+            mark(rt, n == -5)
         }
     }
 }
 
-fn private_data(bytes: &[u8], p: MaybePrivateData) {
+fn private_data(rt: &impl Print, bytes: &[u8], p: MaybePrivateData) -> io::Result<()> {
     match p {
-        MaybePrivateData::Absent => text(b",-"),
+        MaybePrivateData::Absent => text(rt, ",-"),
         MaybePrivateData::Present { start, len } => {
             let d = packet::private_data(bytes, start, len);
-            size(d.len());
+            size(rt, d.len())?;
             if 0 < d.len() {
-                byte(d[0]);
+                byte(rt, d[0])?;
             }
+            Ok(())
         }
     }
 }
 
-fn extension_of(e: AdaptationFieldExtension) {
+fn extension_of(rt: &impl Print, e: AdaptationFieldExtension) -> io::Result<()> {
     let ltw = e.ltw;
     let rate = e.piecewise_rate;
     let splice = e.seamless_splice;
-    number(e.length as u64);
+    number(rt, e.length as u64)?;
     match ltw {
-        MaybeLtw::Absent => text(b",-"),
+        MaybeLtw::Absent => text(rt, ",-")?,
         MaybeLtw::Present { valid, offset } => {
-            mark(valid);
-            number(offset as u64);
+            mark(rt, valid)?;
+            number(rt, offset as u64)?;
         }
     }
     match rate {
-        MaybePiecewiseRate::Absent => text(b",-"),
-        MaybePiecewiseRate::Present(r) => number(r as u64),
+        MaybePiecewiseRate::Absent => text(rt, ",-")?,
+        MaybePiecewiseRate::Present(r) => number(rt, r as u64)?,
     }
     match splice {
-        MaybeSeamlessSplice::Absent => text(b",-"),
+        MaybeSeamlessSplice::Absent => text(rt, ",-"),
         MaybeSeamlessSplice::Present {
             splice_type,
             dts_next_au,
         } => {
-            number(splice_type as u64);
-            number(dts_next_au);
+            number(rt, splice_type as u64)?;
+            number(rt, dts_next_au)
         }
     }
 }
 
-fn field(bytes: &[u8], f: AdaptationField) {
+fn field(rt: &impl Print, bytes: &[u8], f: AdaptationField) -> io::Result<()> {
     let pcr = f.pcr;
     let opcr = f.opcr;
     let splice = f.splice_countdown;
     let data = f.transport_private_data;
     let extension = f.adaptation_field_extension;
-    number(f.length as u64);
-    mark(f.discontinuity_indicator);
-    mark(f.random_access_indicator);
-    mark(f.elementary_stream_priority_indicator);
-    clock(pcr);
-    clock(opcr);
-    countdown(splice);
-    private_data(bytes, data);
+    number(rt, f.length as u64)?;
+    mark(rt, f.discontinuity_indicator)?;
+    mark(rt, f.random_access_indicator)?;
+    mark(rt, f.elementary_stream_priority_indicator)?;
+    clock(rt, pcr)?;
+    clock(rt, opcr)?;
+    countdown(rt, splice)?;
+    private_data(rt, bytes, data)?;
     match extension {
-        MaybeExtension::Absent => text(b",-"),
-        MaybeExtension::Present(e) => extension_of(e),
+        MaybeExtension::Absent => text(rt, ",-"),
+        MaybeExtension::Present(e) => extension_of(rt, e),
     }
 }
 
-fn parsed(bytes: &[u8], p: TsPacket) {
+fn parsed(rt: &impl Print, bytes: &[u8], p: TsPacket) -> io::Result<()> {
     let f = p.adaptation_field;
     let start = p.payload_start;
-    text(b"packet");
-    number(p.pid as u64);
-    mark(p.payload_unit_start);
-    mark(p.transport_error);
-    mark(p.transport_priority);
-    number(p.transport_scrambling_control as u64);
-    number(p.continuity_counter as u64);
+    text(rt, "packet")?;
+    number(rt, p.pid as u64)?;
+    mark(rt, p.payload_unit_start)?;
+    mark(rt, p.transport_error)?;
+    mark(rt, p.transport_priority)?;
+    number(rt, p.transport_scrambling_control as u64)?;
+    number(rt, p.continuity_counter as u64)?;
     let d = packet::payload(bytes, start);
-    size(d.len());
+    size(rt, d.len())?;
     match f {
-        MaybeAdaptationField::Absent => text(b",-"),
-        MaybeAdaptationField::Present(a) => field(bytes, a),
+        MaybeAdaptationField::Absent => text(rt, ",-"),
+        MaybeAdaptationField::Present(a) => field(rt, bytes, a),
     }
 }
 
-fn parse(bytes: &[u8]) {
+fn parse(rt: &impl Print, bytes: &[u8]) -> io::Result<()> {
     match TsPacket::parse(bytes) {
-        Parse::Packet(p) => parsed(bytes, p),
+        Parse::Packet(p) => parsed(rt, bytes, p)?,
         Parse::Truncated { have, need } => {
-            text(b"truncated");
-            size(have);
-            size(need);
+            text(rt, "truncated")?;
+            size(rt, have)?;
+            size(rt, need)?;
         }
         Parse::BadSyncByte(b) => {
-            text(b"sync");
-            number(b as u64);
+            text(rt, "sync")?;
+            number(rt, b as u64)?;
         }
     }
-    line();
+    line(rt)
 }
 
 // A packet of PID 0x1FFF with every flag of the header set, and control and counter in the last byte.
@@ -188,53 +186,54 @@ fn header(control: u8) -> [u8; 188]
     p
 }
 
-fn layouts() {
+fn layouts(rt: &impl Print) -> io::Result<()> {
     let mut a = [0u8; 376];
     a[0] = 0x47;
     a[188] = 0x47;
-    layout(&a);
-    layout(&a[..375]);
-    window(&a, TsPacketLayout::STANDARD, 1);
-    window(&a, TsPacketLayout::STANDARD, 2);
+    layout(rt, &a)?;
+    layout(rt, &a[..375])?;
+    window(rt, &a, TsPacketLayout::STANDARD, 1)?;
+    window(rt, &a, TsPacketLayout::STANDARD, 2)?;
     let mut b = [0u8; 384];
     b[4] = 0x47;
     b[196] = 0x47;
-    layout(&b);
-    window(&b, TsPacketLayout::PREFIXED_192, 1);
+    layout(rt, &b)?;
+    window(rt, &b, TsPacketLayout::PREFIXED_192, 1)?;
     let mut c = [0u8; 408];
     c[0] = 0x47;
     c[204] = 0x47;
-    layout(&c);
-    window(&c, TsPacketLayout::TRAILER_204, 1);
+    layout(rt, &c)?;
+    window(rt, &c, TsPacketLayout::TRAILER_204, 1)
 }
 
 // Fields that end too soon: PCR, private data, the extension and its piecewise rate.
-fn short_fields() {
+fn short_fields(rt: &impl Print) -> io::Result<()> {
     let mut p = header(0x30);
     p[4] = 3;
     p[5] = 0x10;
-    parse(&p);
+    parse(rt, &p)?;
     p[4] = 4;
     p[5] = 0x02;
     p[6] = 9;
-    parse(&p);
+    parse(rt, &p)?;
     p[5] = 0x01;
-    parse(&p);
+    parse(rt, &p)?;
     p[4] = 3;
     p[6] = 1;
     p[7] = 0x40;
-    parse(&p);
+    parse(rt, &p)
 }
 
 // A whole packet, without its last byte, and without its first.
-fn whole_and_cut(p: &[u8]) {
+fn whole_and_cut(rt: &impl Print, p: &[u8]) -> io::Result<()> {
     let n = p.len();
-    parse(p);
+    parse(rt, p)?;
     if 0 < n {
         let end = n - 1;
-        parse(&p[0..end]);
-        parse(&p[1..n]);
+        parse(rt, &p[0..end])?;
+        parse(rt, &p[1..n])?;
     }
+    Ok(())
 }
 
 // Every flag, PCR 90000 and an OPCR of ones.
@@ -257,7 +256,7 @@ fn clocks() -> [u8; 188]
 }
 
 // Behind them countdown -5, three private bytes, and an extension with all its fields.
-fn full() {
+fn full(rt: &impl Print) -> io::Result<()> {
     let mut p = clocks();
     p[18] = 251;
     p[19] = 3;
@@ -273,41 +272,41 @@ fn full() {
     p[32] = 0x05;
     p[33] = 0xBF;
     p[34] = 0x21;
-    whole_and_cut(&p);
+    whole_and_cut(rt, &p)
 }
 
 // Control 00, then a bad sync byte, then control 01.
-fn headers() {
+fn headers(rt: &impl Print) -> io::Result<()> {
     let mut p = header(0x00);
-    parse(&p);
+    parse(rt, &p)?;
     p[0] = 0x48;
-    parse(&p);
+    parse(rt, &p)?;
     p[0] = 0x47;
     p[3] = 0x1A;
-    parse(&p);
+    parse(rt, &p)
 }
 
 // Adaptation fields of length 183, 184 and 0, and an extension of length 0.
-fn lengths() {
+fn lengths(rt: &impl Print) -> io::Result<()> {
     let mut p = header(0x20);
     p[4] = 183;
     p[5] = 0xFF;
-    parse(&p);
+    parse(rt, &p)?;
     p[5] = 0x00;
-    parse(&p);
+    parse(rt, &p)?;
     p[4] = 184;
-    parse(&p);
+    parse(rt, &p)?;
     p[4] = 0;
-    parse(&p);
+    parse(rt, &p)?;
     p[4] = 2;
     p[5] = 0x01;
-    parse(&p);
+    parse(rt, &p)
 }
 
-fn main() {
-    layouts();
-    full();
-    headers();
-    lengths();
-    short_fields();
+fn main(rt: HostRuntime) -> io::Result<()> {
+    layouts(&rt)?;
+    full(&rt)?;
+    headers(&rt)?;
+    lengths(&rt)?;
+    short_fields(&rt)
 }

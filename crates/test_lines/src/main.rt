@@ -1,30 +1,31 @@
 // `lines::write` of answers made by hand: refusals, the nine packets of document 01, every kind of violation, times about zero, and a
 // text that is cut. `stdout` was worked out apart from this program.
+#![tactic(auto)]
+
 use answer::{Answer, Figures};
 use error::{Code, Refusal};
-use libc::STDOUT_FILENO;
 use report::{TStdChainStats, TStdReport, TStdViolation};
+use std::io;
 
-fn print(text: &[u8], n: usize) {
+fn print(rt: &impl Print, text: &[u8], n: usize) -> io::Result<()> {
     if n <= text.len() {
-        io::write_all(STDOUT_FILENO, &text[..n]);
+        rt.write_all(&text[..n])?;
     }
+    Ok(())
 }
 
-fn show(answer: Answer) {
+fn show(rt: &impl Print, answer: Answer) -> io::Result<()> {
     let mut out = [0u8; 8618];
     let n = lines::write(answer, &mut out);
-    print(&out, n);
+    print(rt, &out, n)
 }
 
 // In 12 bytes of dots, all of which are printed.
-fn show_cut(answer: Answer) {
+fn show_cut(rt: &impl Print, answer: Answer) -> io::Result<()> {
     let mut out = [b'.'; 12];
     let n = lines::write(answer, &mut out);
-    io::write_all(STDOUT_FILENO, &out);
-    io::write_all(STDOUT_FILENO, b" ");
-    io::print_decimal(STDOUT_FILENO, n as u64);
-    io::write_all(STDOUT_FILENO, b"\n");
+    rt.write_all(&out)?;
+    println!(rt; " {n}")
 }
 
 fn accepted(report: TStdReport, figures: Figures) -> Answer {
@@ -39,29 +40,38 @@ fn accepted(report: TStdReport, figures: Figures) -> Answer {
     }
 }
 
-fn refusals() {
+fn refusals(rt: &impl Print) -> io::Result<()> {
     let report = TStdReport::new();
-    show(Answer::refused(report, Refusal::NoPacketLayout));
-    show(Answer::refused(report, Refusal::RateOutsideLimits { sample: 10 }));
-    show(Answer::refused(
-        report,
-        Refusal::QueueFull {
-            packet: 18446744073709551615,
-            pid: 300,
-        },
-    ));
-    show_cut(Answer::refused(report, Refusal::RepeatedPcr { sample: 1234 }));
-    show_cut(Answer::refused(report, Refusal::TooFewPcrs));
+    show(rt, Answer::refused(report, Refusal::NoPacketLayout))?;
+    show(
+        rt,
+        Answer::refused(report, Refusal::RateOutsideLimits { sample: 10 }),
+    )?;
+    show(
+        rt,
+        Answer::refused(
+            report,
+            Refusal::QueueFull {
+                packet: 18446744073709551615,
+                pid: 300,
+            },
+        ),
+    )?;
+    show_cut(
+        rt,
+        Answer::refused(report, Refusal::RepeatedPcr { sample: 1234 }),
+    )?;
+    show_cut(rt, Answer::refused(report, Refusal::TooFewPcrs))
 }
 
-fn nine_packets() {
+fn nine_packets(rt: &impl Print) -> io::Result<()> {
     let mut report = TStdReport::new();
     report.pcr_samples = 2;
     report.modelled_seconds = 0.826171875;
     let unused = TStdChainStats::new(0);
     let mut rows = [unused; 9];
     rows[0] = TStdChainStats::new(257);
-    show(accepted(report, Figures { rows, count: 2 }));
+    show(rt, accepted(report, Figures { rows, count: 2 }))
 }
 
 fn add(report: TStdReport, v: TStdViolation) -> TStdReport {
@@ -156,7 +166,7 @@ fn times(report: TStdReport) -> TStdReport {
     )
 }
 
-fn violations() {
+fn violations(rt: &impl Print) -> io::Result<()> {
     let mut report = times(peaks());
     report.violation_events = 1000;
     report.pcr_samples = 3;
@@ -171,24 +181,24 @@ fn violations() {
         access_units: 99,
         max_delay_seconds: 0.9999999,
     };
-    show(accepted(report, Figures { rows, count: 1 }));
-    show_cut(accepted(report, Figures { rows, count: 1 }));
+    show(rt, accepted(report, Figures { rows, count: 1 }))?;
+    show_cut(rt, accepted(report, Figures { rows, count: 1 }))
 }
 
 // What no replay gives: infinities, a not-a-number, and more records in use than there are.
-fn outside() {
+fn outside(rt: &impl Print) -> io::Result<()> {
     let mut report = TStdReport::new();
     report.modelled_seconds = -1.0 / 0.0;
     let mut unused = TStdChainStats::new(7);
     unused.max_delay_seconds = 0.0 / 0.0;
     let mut rows = [unused; 9];
     rows[8].max_delay_seconds = 1.0 / 0.0;
-    show(accepted(report, Figures { rows, count: 10 }));
+    show(rt, accepted(report, Figures { rows, count: 10 }))
 }
 
-fn main() {
-    refusals();
-    nine_packets();
-    violations();
-    outside();
+fn main(rt: HostRuntime) -> io::Result<()> {
+    refusals(&rt)?;
+    nine_packets(&rt)?;
+    violations(&rt)?;
+    outside(&rt)
 }

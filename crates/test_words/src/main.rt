@@ -1,70 +1,70 @@
 // The words of the C boundary on listed inputs: answers, profiles, a row and a report, a word to a line.
+#![tactic(auto)]
+
 use answer::Figures;
 use error::Code;
-use libc::STDOUT_FILENO;
 use profile::{TStdBranch, TStdStream};
 use report::{TStdChainStats, TStdReport, TStdViolation};
+use std::io;
 
-fn print(word: u64) {
-    io::print_decimal(STDOUT_FILENO, word);
-    io::write_all(STDOUT_FILENO, b"\n");
+fn print(rt: &impl Print, word: u64) -> io::Result<()> {
+    println!(rt; "{word}")
 }
 
-fn print_len(n: usize) {
-    print(n as u64);
+fn print_len(rt: &impl Print, n: usize) -> io::Result<()> {
+    print(rt, n as u64)
 }
 
-fn print_pid(pid: u16) {
-    print(pid as u64);
+fn print_pid(rt: &impl Print, pid: u16) -> io::Result<()> {
+    print(rt, pid as u64)
 }
 
-fn print_all(words: &[u64]) {
+fn print_all(rt: &impl Print, words: &[u64]) -> io::Result<()> {
     let mut i = 0;
     while i < words.len() {
-        print(words[i]);
+        print(rt, words[i])?;
         i += 1;
     }
+    Ok(())
 }
 
-fn print_stream(stream: TStdStream) {
+fn print_stream(rt: &impl Print, stream: TStdStream) -> io::Result<()> {
     let model = stream.model;
     let branch = model.branch;
-    print_pid(stream.pid);
-    print(model.rx_bps);
+    print_pid(rt, stream.pid)?;
+    print(rt, model.rx_bps)?;
     match branch {
-        TStdBranch::Main { buffer_size } => {
-            print_len(buffer_size);
-        }
+        TStdBranch::Main { buffer_size } => { print_len(rt, buffer_size) }
         TStdBranch::Video {
             rbx_bps,
             mb_size,
             eb_size,
         } => {
-            print(rbx_bps);
-            print_len(mb_size);
-            print_len(eb_size);
+            print(rt, rbx_bps)?;
+            print_len(rt, mb_size)?;
+            print_len(rt, eb_size)
         }
     }
 }
 
-fn print_profile(profile: &[u64]) {
+fn print_profile(rt: &impl Print, profile: &[u64]) -> io::Result<()> {
     let answer = words::profile_of(profile);
-    print(words::answer_word(answer.code));
+    print(rt, words::answer_word(answer.code))?;
     let config = answer.config;
-    print_pid(config.pcr_pid);
-    print_len(config.stream_count);
-    print_len(config.system_count);
-    print_len(config.queue_depth);
-    print_len(config.clock_depth);
+    print_pid(rt, config.pcr_pid)?;
+    print_len(rt, config.stream_count)?;
+    print_len(rt, config.system_count)?;
+    print_len(rt, config.queue_depth)?;
+    print_len(rt, config.clock_depth)?;
     let first = config.streams[0];
-    print_stream(first);
+    print_stream(rt, first)?;
     let second = config.streams[1];
-    print_stream(second);
+    print_stream(rt, second)?;
     let third = config.streams[2];
-    print_stream(third);
-    print_pid(config.system_pids[1]);
-    print_pid(config.system_pids[2]);
-    print_pid(config.system_pids[3]);
+    print_stream(rt, third)?;
+    print_pid(rt, config.system_pids[1])?;
+    print_pid(rt, config.system_pids[2])?;
+    print_pid(rt, config.system_pids[3])
 }
 
 // A main stream, a video stream and three system PIDs; every word that does not count is 70000.
@@ -92,14 +92,14 @@ fn sample() -> [u64; 69] {
 }
 
 // The number for the sample with one word changed.
-fn print_changed(place: usize, word: u64) {
+fn print_changed(rt: &impl Print, place: usize, word: u64) -> io::Result<()> {
     let mut words = sample();
     words[place % 69] = word;
     let answer = words::profile_of(&words);
-    print(words::answer_word(answer.code));
+    print(rt, words::answer_word(answer.code))
 }
 
-fn print_rows() {
+fn print_rows(rt: &impl Print) -> io::Result<()> {
     let mut chain = TStdChainStats::new(257);
     chain.peak_tb_bytes = 11;
     chain.peak_main_bytes = 12;
@@ -113,13 +113,13 @@ fn print_rows() {
     figures.count = 2;
     let mut whole = [99u64; 13];
     words::write_row(figures, &mut whole);
-    print_all(&whole);
+    print_all(rt, &whole)?;
     let mut short = [99u64; 11];
     words::write_row(figures, &mut short);
-    print_all(&short);
+    print_all(rt, &short)
 }
 
-fn print_report() {
+fn print_report(rt: &impl Print) -> io::Result<()> {
     let first = TStdReport::new().record(TStdViolation::DelayOverOneSecond {
         pid: 257,
         decode_time: 1.5,
@@ -136,34 +136,40 @@ fn print_report() {
     report.modelled_seconds = 1.0;
     let mut words = [99u64; 324];
     words::write_report(report, &mut words);
-    print_all(&words);
+    print_all(rt, &words)?;
     let mut other = [99u64; 3];
     words::write_report(report, &mut other);
-    print_all(&other);
+    print_all(rt, &other)
 }
 
-fn main() {
-    print(words::answer_word(Code {
-        number: 10,
-        place: 98765,
-        pid: 4660,
-    }));
-    print(words::answer_word(Code {
-        number: 255,
-        place: 18446744073709551615,
-        pid: 65535,
-    }));
+fn main(rt: HostRuntime) -> io::Result<()> {
+    print(
+        &rt,
+        words::answer_word(Code {
+            number: 10,
+            place: 98765,
+            pid: 4660,
+        }),
+    )?;
+    print(
+        &rt,
+        words::answer_word(Code {
+            number: 255,
+            place: 18446744073709551615,
+            pid: 65535,
+        }),
+    )?;
     let profile = sample();
-    print_profile(&profile);
-    print_changed(0, 65536);
-    print_changed(1, 9);
-    print_changed(2, 17);
-    print_changed(7, 2);
-    print_changed(55, 65536);
-    print_changed(56, 65536);
+    print_profile(&rt, &profile)?;
+    print_changed(&rt, 0, 65536)?;
+    print_changed(&rt, 1, 9)?;
+    print_changed(&rt, 2, 17)?;
+    print_changed(&rt, 7, 2)?;
+    print_changed(&rt, 55, 65536)?;
+    print_changed(&rt, 56, 65536)?;
     let short = [0u64; 68];
     let answer = words::profile_of(&short);
-    print(words::answer_word(answer.code));
-    print_rows();
-    print_report();
+    print(&rt, words::answer_word(answer.code))?;
+    print_rows(&rt)?;
+    print_report(&rt)
 }
