@@ -1,5 +1,5 @@
-// Links our static library: TSTD_LIB, or what `rt staticlib exports` writes in the repository; with the feature `leaves` also
-// LEAVES_LIB, or what `rt staticlib leaves` writes there; with the feature `before` also a renamed copy of TSTD_BEFORE.
+// Links our static library: TSTD_LIB, or what `sh libraries.sh exports` lays in target/; with the feature `leaves` also
+// LEAVES_LIB, or what `sh libraries.sh leaves` lays there; with the feature `before` also a renamed copy of TSTD_BEFORE.
 use std::path::{Path, PathBuf};
 use std::process::Command;
 use std::{env, fs};
@@ -18,7 +18,7 @@ fn link(lib: &Path) {
 }
 
 fn ours(variable: &str, name: &str) -> PathBuf {
-    let hint = format!("run `rt staticlib {name}` in the repository, or");
+    let hint = format!("run `sh libraries.sh {name}` in compare/, or");
     library(variable, &format!("../target/staticlib/lib{name}.a"), &hint)
 }
 

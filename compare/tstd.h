@@ -1,6 +1,6 @@
 /*
  * The T-STD buffer replay of ITU-T H.222.0 (2.4.2): one function, which takes numbers and arrays only.
- * Link with the static library that `rt staticlib exports` writes.
+ * Link with target/staticlib/libexports.a, which `sh compare/libraries.sh exports` makes.
  */
 #ifndef TSTD_H
 #define TSTD_H
