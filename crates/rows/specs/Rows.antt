@@ -186,10 +186,10 @@ unfoldable pub read_tb : List Float → ℕ → FluidFifo
 read_tb l i = cond (ltb i 8) (tb_in l i) (new 0)
 
 unfoldable pub read_main : List Float → List ℕ → ℕ → MainBranch
-read_main l n i = cond (ltb i 8) (main_in l n i) main-work.newBranch
+read_main l n i = cond (ltb i 8) (main_in l n i) main-work.new_branch
 
 unfoldable pub read_video : List Float → List ℕ → ℕ → VideoBranch
-read_video l n i = cond (ltb i 8) (video_in l n i) video-work.newBranch
+read_video l n i = cond (ltb i 8) (video_in l n i) video-work.new_branch
 
 unfoldable pub read_scanner : List ℕ → ℕ → PesScanner
 read_scanner l i = cond (ltb i 8) (scanner_in l i) idle

@@ -1,0 +1,13 @@
+-- `rows::tb_row::tb_of` meets its contract. Assumes nothing.
+use Rattle.rows.specs.Rows.{read_tb, tb_in}
+use mathlib.Core.Path.{refl}
+use borrow.Author.Tests.{lt-ltb, le-ltb}
+use Rattle.rows.proofs.tb_row.tb_of.Goals as goal
+
+pub returns-then-i-ge-CHAINS : goal.returns-then-i-ge-CHAINS
+unfolding read_tb
+returns-then-i-ge-CHAINS c = rw (le-ltb _ 8 c.if-i-ge-CHAINS.true) c.new.ensures
+
+pub returns : goal.returns
+unfolding read_tb tb_in
+returns c = rw (lt-ltb _ 8 c.if-i-ge-CHAINS.false) refl

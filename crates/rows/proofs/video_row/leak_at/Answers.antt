@@ -1,0 +1,1 @@
+-- `rows::video_row::leak_at` meets its contract. Assumes nothing.
