@@ -70,7 +70,7 @@ module _ (X A S b : Float) (D W : ℕ) (ix : In zero_float X (plain (2 ^ 24))) (
       s1.high_end s2.low_end s3.high_end (how takes) s4.high_end ahead
       (flat (pos_units binary64 A) (pos_units binary64 X) (neg_units binary64 A) (neg_units binary64 X) (neg_units_zero A (in_finite ia) ia.low) (neg_units_zero X (in_finite ix) ix.low) (le→units binary64 A X (in_finite ia) (in_finite ix) fa fx grows)) wide
 
-  -- so it stays within transferLimit, where W is 2 ^ 24 bytes and 1 at most
+  -- so it stays within transfer_limit, where W is 2 ^ 24 bytes and 1 at most
   pub ahead_top_lem : W ≤ (2 ^ 24 + 1) * 2 ^ 1074 → T (le (S ⊕ b) (plain transfer_limit))
   ahead_top_lem w =
       units→high binary64 transfer_limit (S ⊕ b) (in_finite z_in) (add-fits binary64 S b)

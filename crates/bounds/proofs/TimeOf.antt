@@ -1,4 +1,4 @@
--- `time_of_cumulative` finds a time that is no not-a-number and at most foundLimit, and only for bytes that are queued. Assumes nothing.
+-- `time_of_cumulative` finds a time that is no not-a-number and at most found_limit, and only for bytes that are queued. Assumes nothing.
 use mathlib.Core.Bool.{Bool, false, not, true}
 use mathlib.Core.List.{List, [], ◌∷◌}
 use mathlib.Core.Path.{◌∙◌, ◌≡◌, ap, refl, subst, sym}

@@ -211,7 +211,7 @@ unfolding transfer
 transfer_by n e f b true h q p = simp h q
 transfer_by n e f b false h q p = simp h (p h)
 
--- a transfer of at most EBn's room that stays within transferLimit: one turn more
+-- a transfer of at most EBn's room that stays within transfer_limit: one turn more
 module _ (n e : ℕ) (f : Transfer) (size b : Float) (q : TransferIn n e f) (hn : n ≤ byte_limit) (he : e ≤ turn_limit) (iz : In (plain 1) size (plain (2 ^ 30))) (fz : T (fits binary64 size))
     (ib : In zero_float b (plain (2 ^ 34))) (fb : T (fits binary64 b))
     (k : T (le b (size ⊖ (f.eb_in ⊖ f.eb_removed)))) (top : T (le (f.transferred ⊕ b) (plain transfer_limit))) where

@@ -61,7 +61,7 @@ unfoldable pub transfer : Transfer → Float → Transfer
 transfer s bytes = cond (le bytes 0f) s (moved s bytes)
 
 -- ---- the leak
--- MBn's busy stretch began at busySince, which is -∞ while there is none; procTime is -∞ before the first call
+-- MBn's busy stretch began at busy_since, which is -∞ while there is none; proc_time is -∞ before the first call
 pub record Leak : Type 0 where
   pub mb_in : Inflow
   pub flow : Transfer

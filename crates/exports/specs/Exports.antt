@@ -26,7 +26,7 @@ call_outcome l ws times places row report =
     (refused_with Refusal.OutsideLimits)
 
 -- document 01's tests for numbers 1, 2 and 3 in their order, with the report among what number 2 is for: in this order the call's
--- outcome comes about (proofs/Order, in-order)
+-- outcome comes about (proofs/Order, in_order)
 unfoldable pub check_with : TStdConfig → (lent : WorkSize) → (report recording : ℕ) → Checked
 check_with c lent report recording =
     cond (within_limits replay_limits c)

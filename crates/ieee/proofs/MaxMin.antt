@@ -1,4 +1,4 @@
--- Laws of max_of and minOf, the larger and the smaller of two by one comparison: the order of the result and its operands, bounds.
+-- Laws of max_of and min_of, the larger and the smaller of two by one comparison: the order of the result and its operands, bounds.
 -- And bounds of Rust's `f64::clamp`. `le x x` says that x is no not-a-number. Assumes nothing.
 use Rattle.std.proofs.Common.{◌≡◌, Bool, true, false, cond, not, ◌&&◌, T, ◌⊎◌, refl, inl, inr, ⊎_elim}
 use lib.Ieee.{Float, Format, nan, inf, fin, fits, lt, le, eq}

@@ -1,4 +1,4 @@
--- Laws of maxNum, Rust's `f64::max`: a not-a-number yields to the other operand, and of a number it is max_of. Assumes nothing.
+-- Laws of max_num, Rust's `f64::max`: a not-a-number yields to the other operand, and of a number it is max_of. Assumes nothing.
 use Rattle.std.proofs.Common.{◌≡◌, Bool, true, false, cond, T, sym, refl}
 use lib.Ieee.{Float, nan, inf, fin, lt, le, eq, ne}
 use lib.Ieee.Compare.{differs_from_itself}

@@ -9,6 +9,6 @@ max_of a b = cond (lt a b) b a
 unfoldable pub min_of : Float → Float → Float
 min_of a b = cond (lt b a) b a
 
--- Rust's `f64::max` (IEEE 754-2008, maxNum): a not-a-number yields to a number
+-- Rust's `f64::max` (IEEE 754-2008, max_num): a not-a-number yields to a number
 unfoldable pub max_num : Float → Float → Float
 max_num a b = cond (lt a b) b (cond (ne a a) b a)

@@ -1,4 +1,4 @@
--- A float of a format as a whole number of the format's least positive values, 2 ^ -low: pos-units less neg-units of them, of which one is 0.
+-- A float of a format as a whole number of the format's least positive values, 2 ^ -low: pos_units less neg_units of them, of which one is 0.
 use Rattle.std.specs.Prelude.{ℕ, suc, ◌+◌, ◌-◌, ◌*◌, ◌^◌, ◌≤◌, pos, negsuc, Float}
 use Rattle.std.specs.Float.{nan, inf, fin, Format}
 use Rattle.std.specs.Float.Ieee.{prec, low}

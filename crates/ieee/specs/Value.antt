@@ -1,4 +1,4 @@
--- The value of a finite float as a fraction with a sign, (pos-part x - neg-part x) / den x: pos-part and neg-part are its positive and its negative part,
+-- The value of a finite float as a fraction with a sign, (pos_part x - neg_part x) / den x: pos_part and neg_part are its positive and its negative part,
 -- of which one is 0. A fraction with a sign stands as three naturals, (p - n) / c.
 use Rattle.std.specs.Prelude.{ℕ, ◌+◌, ◌*◌, ◌<◌, ◌≤◌, Bool, true, false, not, Float}
 use Rattle.std.specs.Float.{nan, inf, fin}

@@ -20,7 +20,7 @@ digits_in (suc turns) n =
     let longer = digits_in turns (n / 10) ++ (digit (n % 10) ∷ []) in
     cond (ltb n 10) (digit n ∷ []) longer
 
--- the decimal digits of n, with no zero in front (proofs/Decimal: one-digit and last-digit)
+-- the decimal digits of n, with no zero in front (proofs/Decimal: one_digit and last_digit)
 unfoldable pub decimal : ℕ → List ℕ
 decimal n = digits_in n n
 

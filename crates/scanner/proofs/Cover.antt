@@ -145,7 +145,7 @@ module _ (u : List ℕ) (size : ℕ) (h : size ≤ length u) where
   unfolding runs_of
   unfinished k = cut_before before size (stamp_end u) (content_begin u) (stamp_of u) (omega arith) (ordered u)
 
-  -- the run that brings the header to stampEnd ends there and has the stamp
+  -- the run that brings the header to stamp_end ends there and has the stamp
   pub ends_there : before < stamp_end u → stamp_end u ≤ length u → before + (runs_of u size).head ≡ stamp_end u
   unfolding runs_of
   ends_there a b = let e = cut_head before size (stamp_end u) (content_begin u) (stamp_of u) a (omega arith) in omega arith

@@ -90,7 +90,7 @@ onward true p r = []
 onward false p r = p ++ r
 
 -- byte i of a payload of so many bytes, the last of the open unit's so far, with r yet to come: content before the first unit, and from
--- contentBegin of the whole unit on
+-- content_begin of the whole unit on
 abbrev pub content_of : Open → List ℕ → ℕ → ℕ → Bool
 content_of none r size i = true
 content_of (unit u) r size i = leb (content_begin (u ++ r)) (length u - size + i)

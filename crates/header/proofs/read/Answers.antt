@@ -29,7 +29,7 @@ returns-then-from-gt188 c =
 pub returns-then-not-holds : goal.returns-then-not-holds
 returns-then-not-holds c =
     let w = c.args.bytes.now in
-    sym (field_header w (of_slice w c.type_inv.bytes) c.if-bytes-lt188.false c.if-has_field.true c.if-bytes-ne71.false _ (ap (λ (n : ℕ). 5 + n) c.wide_size-from.ensures) c.if-from-gt188.false false (sym c.if-not-holds.true ∙ c.holds.ensures ∙ ap enough c.adaptation_field_room.ensures))
+    sym (field_header w (of_slice w c.type_inv.bytes) c.if-bytes-lt188.false c.if-has_field.true c.if-bytes-ne71.false _ (ap (λ (n : ℕ). 5 + n) c.wide_size-from.ensures) (omega (arith, c.if-from-gt188.false)) false (sym c.if-not-holds.true ∙ c.holds.ensures ∙ ap enough c.adaptation_field_room.ensures))
 
 pub returns : goal.returns
 returns c =
@@ -42,7 +42,7 @@ returns c =
     elim c.if-has_field.branch [
       | then-has_field+else-from-gt188+else-not-holds k ↦
           rw k.from-is
-          (field_header w h long k.if-has_field.true s _ (ap (λ (n : ℕ). 5 + n) k.wide_size-from.ensures) k.if-from-gt188.false true
+          (field_header w h long k.if-has_field.true s _ (ap (λ (n : ℕ). 5 + n) k.wide_size-from.ensures) (omega (arith, k.if-from-gt188.false)) true
           (sym k.if-not-holds.false ∙ k.holds.ensures ∙ ap enough k.adaptation_field_room.ensures))
       | else-has_field k ↦ rw k.from-is (bare_header w h long s k.if-has_field.false)
     ] in

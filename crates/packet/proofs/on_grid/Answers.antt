@@ -12,7 +12,7 @@ pub nonzero_div-whole : goal.nonzero_div-whole
 nonzero_div-whole c = omega arith
 
 pub returns-then-whole-lt2 : goal.returns-then-whole-lt2
-returns-then-whole-lt2 c = grid_few _ _ _ c.if-whole-lt2.true
+returns-then-whole-lt2 c = grid_few _ _ _ (omega (arith, c.if-whole-lt2.true))
 
 pub loop-k-init : goal.loop-k-init
 loop-k-init c = (omega arith, omega (arith, zero-mul c.args.size), refl)
@@ -24,7 +24,7 @@ bounds-buf-at c =
 
 pub returns-then-buf-at-ne71 : goal.returns-then-buf-at-ne71
 returns-then-buf-at-ne71 c =
-    grid_not _ _ _ c.if-whole-lt2.false c.loop-k.k (omega (arith, c.lesser-check.ensures)) (rw c.loop-k.invariant.1 at c.if-buf-at-ne71.true)
+    grid_not _ _ _ (omega (arith, c.if-whole-lt2.false)) c.loop-k.k (omega (arith, c.lesser-check.ensures)) (rw c.loop-k.invariant.1 at c.if-buf-at-ne71.true)
 
 pub overflow_add-at : goal.overflow_add-at
 overflow_add-at c =
@@ -38,4 +38,4 @@ loop-k-preserved c =
 pub returns : goal.returns
 returns c =
     let e : c.loop-k.k ≡ min (length c.args.buf.now / c.args.size) 8 = omega (arith, c.lesser-check.ensures) in
-    grid_is _ _ _ c.if-whole-lt2.false (rw e at c.loop-k.invariant.2)
+    grid_is _ _ _ (omega (arith, c.if-whole-lt2.false)) (rw e at c.loop-k.invariant.2)
