@@ -1,5 +1,4 @@
--- The replay on what a caller lends, and what is proved of it.
+-- The replay on what a caller lends.
 pub mod Analyze
 pub mod Answers
 pub mod Chains
-pub mod Demands
