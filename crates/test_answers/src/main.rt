@@ -4,9 +4,9 @@
 
 ghost use Rattle.std.specs.Prelude.{◌≡◌, ◌*◌, ◌<◌, ◌≤◌, length};
 
+use reading::read_full;
 use std::fs::File;
 use std::io;
-use std::io::Read;
 
 // Room for the list, and for the work of any case in it.
 const LIST: usize = 350000;
@@ -251,10 +251,10 @@ fn print_all(rt: &impl Print, list: &[u8]) -> io::Result<()> {
 fn main(rt: HostRuntime) -> io::Result<()> {
     match File::open(&rt, "answers.bin") {
         Err(_) => println!(rt; "there is no list"),
-        Ok(file) => {
-            let mut list = Vec::new(rt.alloc());
-            file.take(LIST as u64).read_to_end(&mut list)?;
-            print_all(&rt, &list)
+        Ok(mut file) => {
+            let mut list = [0u8; LIST];
+            let n = read_full(&mut file, &mut list)?;
+            print_all(&rt, &list[..n])
         }
     }
 }

@@ -2,19 +2,19 @@
 #![tactic(auto)]
 
 use line_program::{INPUT, TEXT};
+use reading::read_full;
 use std::fs::File;
 use std::io;
-use std::io::Read;
 
 fn show(rt: &HostRuntime, name: &str) -> io::Result<()> {
     println!(rt; "{name}")?;
     match File::open(rt, name) {
         Err(_) => println!(rt; "missing"),
-        Ok(file) => {
-            let mut input = Vec::new(rt.alloc());
-            file.take(INPUT as u64).read_to_end(&mut input)?;
+        Ok(mut file) => {
+            let mut input = [0u8; INPUT];
+            let n = read_full(&mut file, &mut input)?;
             let mut out = [0u8; TEXT];
-            let m = line_program::text_of(&input, &mut out);
+            let m = line_program::text_of(&input[..n], &mut out);
             rt.write_all(&out[..m])
         }
     }

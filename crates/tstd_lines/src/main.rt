@@ -2,13 +2,13 @@
 #![tactic(auto)]
 
 use line_program::{INPUT, TEXT};
+use reading::read_full;
 use std::io;
-use std::io::Read;
 
 fn main(rt: HostRuntime) -> io::Result<()> {
-    let mut input = Vec::new(rt.alloc());
-    rt.reader().take(INPUT as u64).read_to_end(&mut input)?;
+    let mut input = [0u8; INPUT];
+    let n = read_full(&mut rt.reader(), &mut input)?;
     let mut out = [0u8; TEXT];
-    let m = line_program::text_of(&input, &mut out);
+    let m = line_program::text_of(&input[..n], &mut out);
     rt.write_all(&out[..m])
 }
