@@ -109,8 +109,8 @@ def turn(text, table, fields):
             piece = re.sub(r"`([^`\n]*)`", lambda s: "`" + turn(s.group(1), table, fields) + "`", piece)
         elif not piece.startswith('"'):
             before = text[max(0, m.start() - 80) : m.start()]
-            head = re.search(r"([\w'-]+)\.$", before)
-            plain = table if not re.search(r"[\w)'-]\.$", before) or head and head.group(1) in modules else {}
+            head = re.search(r"([\w'-]+)\.\Z", before)
+            plain = table if not re.search(r"[\w)'-]\.\Z", before) or head and head.group(1) in modules else {}
             piece = plain.get(piece, fields.get(piece, piece))
         out += [text[last : m.start()], piece]
         last = m.end()
