@@ -22,7 +22,7 @@ refusal_of c =
     (Refusal.QueueFull c.place c.pid)))))))))
 
 back : (r : Refusal) → refusal_of (code_of r) ≡ r
-unfolding code_of refusal_of
+unfolding refusal_of
 back Refusal.OutsideLimits = refl
 back Refusal.WorkTooShort = refl
 back Refusal.RecordingTooLong = refl

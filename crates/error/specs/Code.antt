@@ -10,7 +10,7 @@ code_numbered n = record { number = n; place = 0; pid = 0 }
 abbrev pub code_placed : ℕ → ℕ → Code
 code_placed n p = record { number = n; place = p; pid = 0 }
 
-unfoldable pub code_of : Refusal → Code
+abbrev pub code_of : Refusal → Code
 code_of Refusal.OutsideLimits = code_numbered 1
 code_of Refusal.WorkTooShort = code_numbered 2
 code_of Refusal.RecordingTooLong = code_numbered 3

@@ -4,7 +4,7 @@
 ghost use Rattle.std.specs.Prelude.{◌≡◌};
 ghost use Rattle.error.specs.Code.{code_of, code_numbered, code_placed};
 
-#[derive(Clone, Copy)]
+#[derive(Clone, Copy, Debug, PartialEq, Eq)]
 pub enum Refusal {
     // A profile field, or an argument, is outside its limit.
     OutsideLimits,
@@ -24,7 +24,7 @@ pub enum Refusal {
     QueueFull { packet: u64, pid: u16 },
 }
 
-#[derive(Clone, Copy)]
+#[derive(Clone, Copy, Debug, PartialEq, Eq)]
 pub struct Code {
     pub number: u8,
     pub place: u64,
