@@ -7,6 +7,7 @@ ghost use Rattle.std.specs.Float.Ieee as Ieee;
 ghost use Rattle.ieee.specs.MaxMin.{max_of, min_of, max_num};
 
 // One comparison: Rust's `f64::max` where a is a number. Ruled out: the smaller one; the second of two that are equal.
+// Not std's `max`: it has two comparisons (measured), and leaves open which of two equal operands it gives.
 pub fn max(a: f64, b: f64) -> f64
     ensures { result ≡ max_of a b }
 {
@@ -17,6 +18,7 @@ pub fn max(a: f64, b: f64) -> f64
 }
 
 // One comparison: Rust's `f64::min` where a is a number. Ruled out: the larger one; the second of two that are equal.
+// Not std's `min`, for the same reasons.
 pub fn min(a: f64, b: f64) -> f64
     ensures { result ≡ min_of a b }
 {
@@ -27,6 +29,7 @@ pub fn min(a: f64, b: f64) -> f64
 }
 
 // Rust's `f64::max`. Ruled out: a not-a-number kept beside a number; the smaller one.
+// Not std's `max`: of two equal operands this promises the first, where std's leaves it open.
 pub fn max_num(a: f64, b: f64) -> f64
     ensures { result ≡ max_num a b }
 {
@@ -41,6 +44,7 @@ pub fn max_num(a: f64, b: f64) -> f64
 
 // A count as a float, as Rust's `as f64` of a `u64`: below 2^31 in one instruction, as a signed integer.
 // Ruled out: a count from 2^63 on read as a negative number; one past 2^53 rounded toward zero.
+// Not std's `nearest_u64_to_f64` alone: it takes more than the one instruction.
 pub fn as_float(n: u64) -> f64
     ensures { result ≡ Ieee.of_int Ieee.binary64 (pos n) }
 {
@@ -58,11 +62,12 @@ const BIAS: u64 = 1023 + 52;
 
 // The whole number toward zero, as Rust's `as u64` of an `f64`: 0 below zero and for a not-a-number, 2^64 - 1 from 2^64 on.
 // Ruled out: the nearest whole number; the low 64 bits of a number past 2^64.
+// By steps of its own, which the project's rules ask for, and not by a truncating cast.
 pub fn to_u64(x: f64) -> u64
     ensures { result ≡ Ieee.to_unsigned 64 x }
 {
     if x >= 18446744073709551616.0 {
-        return 18446744073709551615;
+        return u64::MAX;
     }
     if x >= 1.0 {
         // x is significand * 2^(exponent - BIAS)
