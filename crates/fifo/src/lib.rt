@@ -1,17 +1,9 @@
 // A transport buffer (H.222.0 2.4.2) as a fluid FIFO with a constant drain rate: the Rust's `FluidFifo`.
-// -infinity stands for the Rust's `None` of `busy_since`, so that the record holds floats alone.
+// -infinity stands for the Rust's `None` of `busy_since`, so that the record holds floats alone: an `Option` costs copies for each packet.
 #![tactic(auto)]
 
-ghost use Rattle.std.specs.Prelude.{◌≡◌, true};
-ghost use Rattle.std.specs.Float.{inf};
+ghost use Rattle.std.specs.Prelude.{◌≡◌};
 ghost use Rattle.fifo.specs.FluidFifo.{new, pushed};
-
-// Rust's `f64::NEG_INFINITY`, which a constant cannot hold here.
-fn neg_infinity() -> f64
-    ensures { result ≡ inf true }
-{
-    -1.0 / 0.0
-}
 
 // The rate is in bytes/s, the peak in bytes, the rest in seconds.
 #[derive(Clone, Copy)]
@@ -37,8 +29,8 @@ impl FluidFifo {
     {
         FluidFifo {
             rate: std::num::nearest_u64_to_f64(rate_bps) / 8.0,
-            virtual_done: neg_infinity(),
-            busy_since: neg_infinity(),
+            virtual_done: f64::NEG_INFINITY,
+            busy_since: f64::NEG_INFINITY,
             peak: 0.0,
             longest_busy: 0.0,
         }
@@ -60,7 +52,7 @@ impl FluidFifo {
         let mut since = self.busy_since;
         let mut longest = self.longest_busy;
         let idle = self.virtual_done < t0 - 1e-6;
-        if since == neg_infinity() {
+        if since == f64::NEG_INFINITY {
             since = t0;
         } else if idle {
             longest = ieee::max(longest, self.virtual_done - since);
