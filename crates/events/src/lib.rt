@@ -24,17 +24,10 @@ pub const MB_BUSY: usize = 5;
 pub fn note(firsts: &mut [u64; 64], figures: &mut [f64; 128], k: usize, figure: f64, decode: f64)
     ensures { slots firsts.new figures.new ≡ noted k figure decode (slots firsts.old figures.old) }
 {
-    if k == 0 {
+    if k == 0 || k > 63 || firsts[0] == u64::MAX {
         return;
     }
-    if k > 63 {
-        return;
-    }
-    let count = firsts[0];
-    if count >= 18446744073709551615 {
-        return;
-    }
-    let event = count + 1;
+    let event = firsts[0] + 1;
     firsts[0] = event;
     if firsts[k] == 0 {
         firsts[k] = event;
