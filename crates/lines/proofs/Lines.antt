@@ -7,7 +7,7 @@ use native.Mathlib.Numerals.{add-one}
 use native.Mathlib.Decide.{dec_le}
 use native.Mathlib.Omega.{arith}
 use lib.ListN.{length, take, get_or}
-use lib.Seq.{take-suc, take_all}
+use lib.Seq.{take-suc, take_all, length-take-le}
 use Rattle.lines.specs.Text.{each}
 use Rattle.lines.specs.Written.{Written}
 use Rattle.lines.proofs.Written.{no_longer, same_text, behind}
@@ -41,7 +41,10 @@ module _ {A : Type 0} (f : A → List ℕ) where
         ∙ ap (λ (t : List ℕ). each f (take i l) ++ t) (each_one (get_or l i d)))) in
         no_longer longer ((i + 1) * k) (omega (arith, longer.short, ap (λ (j : ℕ). j * k) (add-one i) ∙ suc-mul i k))
 
-    pub all_lines : (c n : ℕ) → length l ≡ c → i ≡ min n (length l) → Written (c * k) (each f (take n l)) out at out₁ next₁
-    all_lines c n all e =
-        let h : i ≤ c = omega arith in
-        same_text (no_longer v (c * k) (le_trans v.short (mul-le-mul_right k h))) (ap (λ (j : ℕ). each f (take j l)) e ∙ ap (each f) (take_min_by n l (dec_le _ _)))
+    -- the list is as much of xs as is in use
+    pub all_lines : (c n : ℕ) (xs : List A) → length xs ≡ c → l ≡ take (min n c) xs → i ≡ length l → Written (c * k) (each f (take n xs)) out at out₁ next₁
+    all_lines c n xs all same e =
+        let h : i ≤ c = omega (arith, e, ap length same, length-take-le (min n c) xs) in
+        same_text
+        (no_longer v (c * k) (le_trans v.short (mul-le-mul_right k h)))
+        (ap (each f) (take_all i l (omega arith) ∙ same ∙ ap (λ (m : ℕ). take (min n m) xs) (sym all) ∙ take_min_by n xs (dec_le _ _)))

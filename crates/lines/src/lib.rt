@@ -27,14 +27,13 @@ fn put_text(out: &mut [u8], at: usize, text: &[u8]) -> usize
     ensures { Written (length text.now) text.now out.old at out.new result }
 {
     let mut next = at;
-    let mut i = 0;
-    while i < text.len() {
-        next = put(out, next, text[i]);
-        i += 1;
+    for &byte in text {
+        next = put(out, next, byte);
     }
     next
 }
 
+// By hand and not by `write!`, which promises its bytes where it succeeds and not that it does: every byte of this text is promised.
 fn put_number(out: &mut [u8], at: usize, n: u64) -> usize
     ensures { Written 20 (decimal n) out.old at out.new result }
 {
@@ -43,19 +42,6 @@ fn put_number(out: &mut [u8], at: usize, n: u64) -> usize
     }
     let next = put_number(out, at, n / 10);
     put(out, next, b'0' + (n % 10) as u8)
-}
-
-fn least(a: u64, b: u64) -> u64
-    ensures { result ≡ min a b }
-{
-    if a < b { a } else { b }
-}
-
-// How many of the slots are in use.
-fn used(count: usize, slots: usize) -> usize
-    ensures { result ≡ min count slots }
-{
-    if count < slots { count } else { slots }
 }
 
 // The ends of an i64: 2^63 below zero and 2^63 - 1 above.
@@ -68,9 +54,9 @@ fn put_micros(out: &mut [u8], at: usize, seconds: f64) -> usize
     ensures { Written 20 (microseconds seconds) out.old at out.new result }
 {
     let micros = seconds * 1000000.0;
-    let below = least(ieee::to_u64(-micros), MOST_BELOW);
+    let below = ieee::to_u64(-micros).min(MOST_BELOW);
     if below == 0 {
-        return put_number(out, at, least(ieee::to_u64(micros), MOST_ABOVE));
+        return put_number(out, at, ieee::to_u64(micros).min(MOST_ABOVE));
     }
     let next = put(out, at, b'-');
     put_number(out, next, below)
@@ -105,7 +91,7 @@ fn refused_line(out: &mut [u8], at: usize, code: Code) -> usize
     ensures { Written 50 (refused_line code) out.old at out.new result }
 {
     let mut next = put_text(out, at, b"refused");
-    next = number_field(out, next, code.number as u64);
+    next = number_field(out, next, u64::from(code.number));
     next = number_field(out, next, code.place);
     put(out, next, b'\n')
 }
@@ -125,13 +111,12 @@ fn violation_line(out: &mut [u8], at: usize, v: ViolationFields) -> usize
     requires { at ≤ length out.old }
     ensures { Written 115 (fields_line v) out.old at out.new result }
 {
-    let figure = v.figure;
     let mut next = put_text(out, at, b"violation");
-    next = number_field(out, next, v.kind as u64);
-    next = number_field(out, next, v.pid as u64);
+    next = number_field(out, next, u64::from(v.kind));
+    next = number_field(out, next, u64::from(v.pid));
     next = number_field(out, next, v.limit as u64);
     next = micros_field(out, next, v.decode_time);
-    next = figure_field(out, next, figure);
+    next = figure_field(out, next, v.figure);
     put(out, next, b'\n')
 }
 
@@ -140,7 +125,7 @@ fn chain_line(out: &mut [u8], at: usize, chain: TStdChainStats) -> usize
     ensures { Written 132 (chain_line chain) out.old at out.new result }
 {
     let mut next = put_text(out, at, b"chain");
-    next = number_field(out, next, chain.pid as u64);
+    next = number_field(out, next, u64::from(chain.pid));
     next = number_field(out, next, chain.peak_tb_bytes);
     next = number_field(out, next, chain.peak_main_bytes);
     next = number_field(out, next, chain.peak_eb_bytes);
@@ -153,14 +138,9 @@ fn violation_lines(out: &mut [u8], at: usize, report: TStdReport) -> usize
     requires { at ≤ length out.old }
     ensures { Written 7360 (violation_lines report) out.old at out.new result }
 {
-    let count = used(report.violation_count, 64);
     let mut next = at;
-    let mut i = 0;
-    while i < count {
-        let line = report.violations[i];
-        let v = line.violation;
-        next = violation_line(out, next, v.fields());
-        i += 1;
+    for line in &report.violations[..report.violation_count.min(64)] {
+        next = violation_line(out, next, line.violation.fields());
     }
     next
 }
@@ -169,13 +149,9 @@ fn chain_lines(out: &mut [u8], at: usize, figures: Figures) -> usize
     requires { at ≤ length out.old }
     ensures { Written 1188 (chain_lines figures) out.old at out.new result }
 {
-    let count = used(figures.count, 9);
     let mut next = at;
-    let mut i = 0;
-    while i < count {
-        let chain = figures.rows[i];
+    for &chain in &figures.rows[..figures.count.min(9)] {
         next = chain_line(out, next, chain);
-        i += 1;
     }
     next
 }
@@ -185,13 +161,10 @@ fn chain_lines(out: &mut [u8], at: usize, figures: Figures) -> usize
 pub fn write(answer: Answer, out: &mut [u8]) -> usize
     ensures { (result ≡ min (length (text_of answer)) (length out.old)) × (out.new ≡ filled out.old (text_of answer)) × (length (text_of answer) ≤ 8618) }
 {
-    let code = answer.code;
-    if code.number != 0 {
-        return refused_line(out, 0, code);
+    if answer.code.number != 0 {
+        return refused_line(out, 0, answer.code);
     }
-    let report = answer.report;
-    let figures = answer.figures;
-    let mut next = report_line(out, 0, report);
-    next = violation_lines(out, next, report);
-    chain_lines(out, next, figures)
+    let mut next = report_line(out, 0, answer.report);
+    next = violation_lines(out, next, answer.report);
+    chain_lines(out, next, answer.figures)
 }

@@ -13,17 +13,17 @@ pub returns-then-below-eq0 : goal.returns-then-below-eq0
 unfolding microseconds
 returns-then-below-eq0 c =
     let x = c.args.seconds ⊗ 1000000f in
-    let none = sym (ap (λ (k : ℕ). min k 9223372036854775808) c.to_u64.ensures) ∙ sym c.least-below.ensures ∙ c.if-below-eq0.true in
+    let none = sym (ap (λ (k : ℕ). min k 9223372036854775808) c.to_u64.ensures) ∙ sym c.min-below.ensures ∙ c.if-below-eq0.true in
     same_text
     c.put_number.ensures
-    (ap decimal (c.least.ensures ∙ ap (λ (k : ℕ). min k 9223372036854775807) c.to_u64-then-below-eq0.ensures) ∙ sym (not_below x none))
+    (ap decimal (c.min.ensures ∙ ap (λ (k : ℕ). min k 9223372036854775807) c.to_u64-then-below-eq0.ensures) ∙ sym (not_below x none))
 
 pub returns : goal.returns
 unfolding microseconds
 returns c =
     let x = c.args.seconds ⊗ 1000000f in
-    let magnitude = c.least-below.ensures ∙ ap (λ (k : ℕ). min k 9223372036854775808) c.to_u64.ensures in
+    let magnitude = c.min-below.ensures ∙ ap (λ (k : ℕ). min k 9223372036854775808) c.to_u64.ensures in
     let all = behind c.put-next.ensures c.put_number-2.ensures in
     same_text
-    (no_longer all 20 (omega (arith, digits_most 18 c.least-below.result (omega (arith, c.least-below.ensures)))))
+    (no_longer all 20 (omega (arith, digits_most 18 c.min-below.result (omega (arith, c.min-below.ensures)))))
     (ap (λ (k : ℕ). ascii "-" ++ decimal k) magnitude ∙ sym (below x (λ e. c.if-below-eq0.false (magnitude ∙ e))))

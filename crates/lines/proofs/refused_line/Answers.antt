@@ -6,4 +6,4 @@ use Rattle.lines.proofs.refused_line.Goals as goal
 pub returns : goal.returns
 unfolding refused_line
 returns c =
-    ended (field (field (first c.put_text-next.ensures) c.number_field-next.ensures) c.number_field-next-2.ensures) c.put.ensures
+    ended (field (field (first c.put_text-next.ensures) (rw c.from.ensures at c.number_field-next.ensures)) c.number_field-next-2.ensures) c.put.ensures

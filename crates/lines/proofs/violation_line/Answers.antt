@@ -6,4 +6,4 @@ use Rattle.lines.proofs.violation_line.Goals as goal
 pub returns : goal.returns
 unfolding fields_line
 returns c =
-    ended (field (field (field (field (field (first c.put_text-next.ensures) c.number_field-next.ensures) c.number_field-next-2.ensures) c.number_field-next-3.ensures) c.micros_field-next.ensures) c.figure_field-next.ensures) c.put.ensures
+    ended (field (field (field (field (field (first c.put_text-next.ensures) (rw c.from.ensures at c.number_field-next.ensures)) (rw c.from-2.ensures at c.number_field-next-2.ensures)) c.number_field-next-3.ensures) c.micros_field-next.ensures) c.figure_field-next.ensures) c.put.ensures

@@ -1,12 +1,9 @@
--- `violation_lines` meets its contract. The invariant: the first i lines are written. The measure: the lines left. Assumes nothing.
-use Prim.Native.Nat.{◌*◌, ◌-◌, ◌≤◌}
+-- `violation_lines` meets its contract. The invariant: the lines so far are written. Assumes nothing.
+use Prim.Native.Nat.{◌*◌}
 use lib.ListN.{take}
 use Rattle.lines.specs.Text.{each, violation_line}
 use Rattle.lines.specs.Written.{Written}
 use Rattle.lines.proofs.violation_lines.Given as goal
 
-abbrev pub invariant-loop-i : goal.invariant-loop-i
-invariant-loop-i l = (l.i ≤ l.count) × Written (l.i * 115) (each violation_line (take l.i l.report.violations)) l.initial.out l.at l.out l.next
-
-abbrev pub decreases-loop-i : goal.decreases-loop-i
-decreases-loop-i l = l.count - l.i
+abbrev pub invariant-loop-line : goal.invariant-loop-line
+invariant-loop-line l = Written (l.line-index * 115) (each violation_line (take l.line-index l.line-items)) l.initial.out l.at l.out l.next
