@@ -17,17 +17,15 @@ use Rattle.syntax.specs.TimeStamp.{stamp33}
 use Rattle.syntax.proofs.Bits.{byte, within}
 use Rattle.syntax.proofs.Bytes.{Bytes}
 use Rattle.syntax.proofs.AdaptationField as laws
-use Rattle.packet.specs.AdaptationField.{read, is_set, place, extended, wants, room_of, data_room, extension_room, extension_fields_room, extension_end, extension_of, adaptation_field_of, field_room, tcimsbf8}
-use Rattle.packet.specs.Places.{Flagged, Placed, Extended}
-use Rattle.packet.specs.declared.Room.{Room}
+use Rattle.packet.specs.AdaptationField.{cut, read, is_set, place, extended, wants, room_of, data_room, extension_room, extension_fields_room, extension_end, extension_of, adaptation_field_of, field_room, tcimsbf8}
+use Rattle.packet.specs.Places.{Flagged, Placed, Extended, clock_at, private_data_at, ltw_at, splice_at}
 use Rattle.packet.specs.declared.Places.{Places}
-use Rattle.packet.specs.declared.MaybeClockReference.{MaybeClockReference}
-use Rattle.packet.specs.declared.MaybeSpliceCountdown.{MaybeSpliceCountdown}
-use Rattle.packet.specs.declared.MaybePrivateData.{MaybePrivateData}
-use Rattle.packet.specs.declared.MaybeLtw.{MaybeLtw}
-use Rattle.packet.specs.declared.MaybePiecewiseRate.{MaybePiecewiseRate}
-use Rattle.packet.specs.declared.MaybeSeamlessSplice.{MaybeSeamlessSplice}
-use Rattle.packet.specs.declared.MaybeExtension.{MaybeExtension}
+use Rattle.packet.specs.declared.Truncated.{Truncated}
+use Rattle.packet.specs.declared.ClockReference.{ClockReference}
+use Rattle.packet.specs.declared.PrivateData.{PrivateData}
+use Rattle.packet.specs.declared.Ltw.{Ltw}
+use Rattle.packet.specs.declared.SeamlessSplice.{SeamlessSplice}
+use Rattle.std.specs.Prelude.{Option, Some, None, Result, Ok, Err, ⊤}
 use Rattle.packet.proofs.Fields as fields
 
 -- a choice by another test, and what it gives where the test holds
@@ -41,15 +39,15 @@ byte_of : (o a : ℕ) → o ≡ 8 * a → o / 8 ≡ a
 byte_of o a e = omega arith
 
 -- a demand by another test, place and count
-wants_by : (limit a b n m : ℕ) (p q : Bool) (rest rest' : Room) → p ≡ q → (p ≡ true → a ≡ b) → (p ≡ true → n ≡ m) → rest ≡ rest'
-    → wants limit p a n rest ≡ cond (q && ltb limit (b + m)) (Room.Truncated (limit - b) m) rest'
+wants_by : (limit a b n m : ℕ) (p q : Bool) (rest rest' : Result ⊤ Truncated) → p ≡ q → (p ≡ true → a ≡ b) → (p ≡ true → n ≡ m) → rest ≡ rest'
+    → wants limit p a n rest ≡ cond (q && ltb limit (b + m)) (Err (cut (limit - b) m)) rest'
 unfolding wants
 wants_by limit a b n m true true rest rest' e f g r = rw (f refl, g refl, r)
 wants_by limit a b n m true false rest rest' e f g r = absurd (true≢false e)
 wants_by limit a b n m false true rest rest' e f g r = absurd (false≢true e)
 wants_by limit a b n m false false rest rest' e f g r = r
 
-pub no_wants : (limit a n : ℕ) (p : Bool) (rest : Room) → p ≡ false → wants limit p a n rest ≡ rest
+pub no_wants : (limit a n : ℕ) (p : Bool) (rest : Result ⊤ Truncated) → p ≡ false → wants limit p a n rest ≡ rest
 unfolding wants
 no_wants limit a n p rest e = rw e
 
@@ -92,9 +90,9 @@ module _ (s : List ℕ) (h : Bytes s) where
           byte_of (offset table_2_6 s "private_data_byte") (p.private_length + 1) (fields.private_bytes s on ∙ rw (at.private on) (omega arith))
 
       pub room_by : room_of s
-          ≡ cond (eqb (f / 16 % 2) 1 && ltb (length s) (2 + 6)) (Room.Truncated (length s - 2) 6)
-          (cond (eqb (f / 8 % 2) 1 && ltb (length s) (p.opcr + 6)) (Room.Truncated (length s - p.opcr) 6)
-          (cond (eqb (f / 4 % 2) 1 && ltb (length s) (p.splice_countdown + 1)) (Room.Truncated (length s - p.splice_countdown) 1)
+          ≡ cond (eqb (f / 16 % 2) 1 && ltb (length s) (2 + 6)) (Err (cut (length s - 2) 6))
+          (cond (eqb (f / 8 % 2) 1 && ltb (length s) (p.opcr + 6)) (Err (cut (length s - p.opcr) 6))
+          (cond (eqb (f / 4 % 2) 1 && ltb (length s) (p.splice_countdown + 1)) (Err (cut (length s - p.splice_countdown) 1))
           (data_room s)))
       unfolding room_of
       room_by =
@@ -106,9 +104,9 @@ module _ (s : List ℕ) (h : Bytes s) where
           countdown_on (λ on. byte_of (offset table_2_6 s "splice_countdown") p.splice_countdown (at.splice on)) (λ on. refl) refl))
 
       pub data_room_by : data_room s
-          ≡ cond (eqb (f / 2 % 2) 1 && ltb (length s) (p.private_length + 1)) (Room.Truncated (length s - p.private_length) 1)
+          ≡ cond (eqb (f / 2 % 2) 1 && ltb (length s) (p.private_length + 1)) (Err (cut (length s - p.private_length) 1))
           (cond (eqb (f / 2 % 2) 1 && ltb (length s) (p.private_length + 1 + get_or s p.private_length 0))
-          (Room.Truncated (length s - (p.private_length + 1)) (get_or s p.private_length 0))
+          (Err (cut (length s - (p.private_length + 1)) (get_or s p.private_length 0)))
           (extension_room s))
       unfolding data_room
       data_room_by =
@@ -119,11 +117,12 @@ module _ (s : List ℕ) (h : Bytes s) where
           (get_or s p.private_length 0) (is_set s "transport_private_data_flag") (eqb (f / 2 % 2) 1) _ _ private_on private_start private_count refl)
 
       clock : (b e o a : ℕ) → b ≡ bits s o 33 → e ≡ bits s (o + 39) 9 → o ≡ 8 * a
-          → MaybeClockReference.Present (record { base = b; extension = e })
-          ≡ MaybeClockReference.Present (record { base = bits s (8 * a) 33; extension = bits s (8 * a + 39) 9 })
+          → ◌≡◌ {A = Option ClockReference} (Some (record { base = b; extension = e })) (Some (clock_at s a))
       clock b e o a eb ee q =
-          ap MaybeClockReference.Present
-          (λ i. record { base = (eb ∙ ap (λ (x : ℕ). bits s x 33) q) i; extension = (ee ∙ ap (λ (x : ℕ). bits s (x + 39) 9) q) i })
+          λ i. Some (record { base = (eb ∙ ap (λ (x : ℕ). bits s x 33) q) i; extension = (ee ∙ ap (λ (x : ℕ). bits s (x + 39) 9) q) i })
+
+      private_data : {a b n m : ℕ} → a ≡ b → n ≡ m → ◌≡◌ {A = Option PrivateData} (Some (record { start = a; len = n })) (Some (record { start = b; len = m }))
+      private_data e f = λ i. Some (record { start = e i; len = f i })
 
       pub field_by : adaptation_field_of s
           ≡ record {
@@ -132,20 +131,20 @@ module _ (s : List ℕ) (h : Bytes s) where
             random_access_indicator = eqb (f / 64 % 2) 1;
             elementary_stream_priority_indicator = eqb (f / 32 % 2) 1;
             pcr =
-                cond (eqb (f / 16 % 2) 1) (MaybeClockReference.Present (record { base = bits s (8 * 2) 33; extension = bits s (8 * 2 + 39) 9 }))
-                MaybeClockReference.Absent;
+                cond (eqb (f / 16 % 2) 1) (Some (clock_at s 2))
+                None;
             opcr =
                 cond (eqb (f / 8 % 2) 1)
-                (MaybeClockReference.Present (record { base = bits s (8 * p.opcr) 33; extension = bits s (8 * p.opcr + 39) 9 }))
-                MaybeClockReference.Absent;
+                (Some (clock_at s p.opcr))
+                None;
             splice_countdown =
-                cond (eqb (f / 4 % 2) 1) (MaybeSpliceCountdown.Present (tcimsbf8 (bits s (8 * p.splice_countdown) 8)))
-                MaybeSpliceCountdown.Absent;
+                cond (eqb (f / 4 % 2) 1) (Some (tcimsbf8 (bits s (8 * p.splice_countdown) 8)))
+                None;
             transport_private_data =
-                cond (eqb (f / 2 % 2) 1) (MaybePrivateData.Present (p.private_length + 1) (bits s (8 * p.private_length) 8))
-                MaybePrivateData.Absent;
+                cond (eqb (f / 2 % 2) 1) (Some (private_data_at s p.private_length))
+                None;
             adaptation_field_extension =
-                cond (is_set s "adaptation_field_extension_flag") (MaybeExtension.Present (extension_of s)) MaybeExtension.Absent;
+                cond (is_set s "adaptation_field_extension_flag") (Some (extension_of s)) None;
           }
       unfolding adaptation_field_of
       field_by =
@@ -156,24 +155,24 @@ module _ (s : List ℕ) (h : Bytes s) where
             random_access_indicator = random_access_on i;
             elementary_stream_priority_indicator = priority_on i;
             pcr =
-                same_choice (is_set s "PCR_flag") (eqb (f / 16 % 2) 1) _ _ MaybeClockReference.Absent pcr_on
+                same_choice (is_set s "PCR_flag") (eqb (f / 16 % 2) 1) _ _ None pcr_on
                 (λ on. clock _ _ _ 2 (fields.pcr_base s on) (fields.pcr_extension s on) (fields.at_pcr s has_flags_lem h on)) i;
             opcr =
-                same_choice (is_set s "OPCR_flag") (eqb (f / 8 % 2) 1) _ _ MaybeClockReference.Absent opcr_on
+                same_choice (is_set s "OPCR_flag") (eqb (f / 8 % 2) 1) _ _ None opcr_on
                 (λ on. clock _ _ _ p.opcr (fields.opcr_base s on) (fields.opcr_extension s on) (at.opcr on)) i;
             splice_countdown =
-                same_choice (is_set s "splicing_point_flag") (eqb (f / 4 % 2) 1) _ _ MaybeSpliceCountdown.Absent countdown_on
-                (λ on. ap (λ (v : ℕ). MaybeSpliceCountdown.Present (tcimsbf8 v)) (fields.countdown_read s on ∙ ap (λ (o : ℕ). bits s o 8) (at.splice on)))
+                same_choice (is_set s "splicing_point_flag") (eqb (f / 4 % 2) 1) _ _ None countdown_on
+                (λ on. ap (λ (v : ℕ). Some (tcimsbf8 v)) (fields.countdown_read s on ∙ ap (λ (o : ℕ). bits s o 8) (at.splice on)))
                 i;
             transport_private_data =
-                same_choice (is_set s "transport_private_data_flag") (eqb (f / 2 % 2) 1) _ _ MaybePrivateData.Absent private_on
-                (λ on. ap₂ MaybePrivateData.Present (private_start on) (fields.private_length s on ∙ ap (λ (o : ℕ). bits s o 8) (at.private on))) i;
+                same_choice (is_set s "transport_private_data_flag") (eqb (f / 2 % 2) 1) _ _ None private_on
+                (λ on. private_data (private_start on) (fields.private_length s on ∙ ap (λ (o : ℕ). bits s o 8) (at.private on))) i;
             adaptation_field_extension =
-                cond (is_set s "adaptation_field_extension_flag") (MaybeExtension.Present (extension_of s)) MaybeExtension.Absent;
+                cond (is_set s "adaptation_field_extension_flag") (Some (extension_of s)) None;
           }
 
   -- without an extension there is nothing to test
-  pub no_extension_room : is_set s "adaptation_field_extension_flag" ≡ false → extension_room s ≡ Room.Enough
+  pub no_extension_room : is_set s "adaptation_field_extension_flag" ≡ false → extension_room s ≡ Ok tt
   unfolding extension_room extension_fields_room wants
   no_extension_room e = rw e
 
@@ -192,8 +191,8 @@ module _ (s : List ℕ) (h : Bytes s) where
     end_is = ap₂ ◌+◌ flags_start count_read
 
     pub extension_room_by : extension_room s
-        ≡ cond (ltb (length s) (d + 1)) (Room.Truncated (length s - d) 1)
-        (cond (ltb (length s) (d + 1 + count)) (Room.Truncated (length s - (d + 1)) count) (extension_fields_room s))
+        ≡ cond (ltb (length s) (d + 1)) (Err (cut (length s - d) 1))
+        (cond (ltb (length s) (d + 1 + count)) (Err (cut (length s - (d + 1)) count)) (extension_fields_room s))
     unfolding extension_room
     extension_room_by =
         wants_by (length s) (place s "adaptation_field_extension_length") d 1 1 (is_set s "adaptation_field_extension_flag") true _ _ x.set
@@ -209,15 +208,15 @@ module _ (s : List ℕ) (h : Bytes s) where
         → extension_of s
         ≡ record {
           length = 0;
-          ltw = MaybeLtw.Absent;
-          piecewise_rate = MaybePiecewiseRate.Absent;
-          seamless_splice = MaybeSeamlessSplice.Absent;
+          ltw = None;
+          piecewise_rate = None;
+          seamless_splice = None;
         }
     unfolding extension_of
     empty_extension z =
         rw (unflagged z "ltw_flag", unflagged z "piecewise_rate_flag", unflagged z "seamless_splice_flag", count_read, z)
 
-    pub empty_room : count ≡ 0 → extension_fields_room s ≡ Room.Enough
+    pub empty_room : count ≡ 0 → extension_fields_room s ≡ Ok tt
     unfolding extension_fields_room wants
     empty_room z = rw (unflagged z "ltw_flag", unflagged z "piecewise_rate_flag", unflagged z "seamless_splice_flag")
 
@@ -246,9 +245,9 @@ module _ (s : List ℕ) (h : Bytes s) where
         at_splice_lem = rw (at_rate_lem, rate_on, splice-is)
 
         pub extension_fields_room_by : (end : ℕ) → end ≡ d + 1 + count → extension_fields_room s
-            ≡ cond (eqb (g / 128 % 2) 1 && ltb end (d + 2 + 2)) (Room.Truncated (end - (d + 2)) 2)
-            (cond (eqb (g / 64 % 2) 1 && ltb end (rate + 3)) (Room.Truncated (end - rate) 3)
-            (cond (eqb (g / 32 % 2) 1 && ltb end (splice + 5)) (Room.Truncated (end - splice) 5) Room.Enough))
+            ≡ cond (eqb (g / 128 % 2) 1 && ltb end (d + 2 + 2)) (Err (cut (end - (d + 2)) 2))
+            (cond (eqb (g / 64 % 2) 1 && ltb end (rate + 3)) (Err (cut (end - rate) 3))
+            (cond (eqb (g / 32 % 2) 1 && ltb end (splice + 5)) (Err (cut (end - splice) 5)) (Ok tt)))
         unfolding extension_fields_room
         extension_fields_room_by end e =
             rw (end_is, ← e, extended_is "ltw_flag", extended_is "piecewise_rate_flag", extended_is "seamless_splice_flag")
@@ -263,25 +262,24 @@ module _ (s : List ℕ) (h : Bytes s) where
             inside : (o a : ℕ) → o ≡ 8 * a + 2 → o / 8 ≡ a
             inside o a e = omega arith
 
-        ltw_by : cond (extended s "ltw_flag") (MaybeLtw.Present (is_set s "ltw_valid_flag") (read s "ltw_offset")) MaybeLtw.Absent
-            ≡ cond (eqb (g / 128 % 2) 1) (MaybeLtw.Present (eqb (bits s (8 * (d + 2)) 1) 1) (bits s (8 * (d + 2) + 1) 15)) MaybeLtw.Absent
+        ltw_by : cond {A = Option Ltw} (extended s "ltw_flag") (Some (record { valid = is_set s "ltw_valid_flag"; offset = read s "ltw_offset" })) None
+            ≡ cond (eqb (g / 128 % 2) 1) (Some (ltw_at s (d + 2))) None
         ltw_by =
             rw (extended_is "ltw_flag")
             (same_choice (is_set s "ltw_flag") (eqb (g / 128 % 2) 1) _ _ _ ltw_on
-            (λ on. ap₂ MaybeLtw.Present (ap (λ (v : ℕ). eqb v 1) (fields.ltw_valid s x.set d x.place on)) (fields.ltw_read s x.set d x.place on)))
+            (λ on i. Some (record { valid = eqb (fields.ltw_valid s x.set d x.place on i) 1; offset = fields.ltw_read s x.set d x.place on i })))
 
-        rate_by : cond (extended s "piecewise_rate_flag") (MaybePiecewiseRate.Present (read s "piecewise_rate")) MaybePiecewiseRate.Absent
-            ≡ cond (eqb (g / 64 % 2) 1) (MaybePiecewiseRate.Present (bits s (8 * rate + 2) 22)) MaybePiecewiseRate.Absent
+        rate_by : cond (extended s "piecewise_rate_flag") (Some (read s "piecewise_rate")) None
+            ≡ cond (eqb (g / 64 % 2) 1) (Some (bits s (8 * rate + 2) 22)) None
         rate_by =
             rw (extended_is "piecewise_rate_flag")
             (same_choice (is_set s "piecewise_rate_flag") (eqb (g / 64 % 2) 1) _ _ _ rate_on
-            (λ on. ap MaybePiecewiseRate.Present (fields.rate_read s x.set d x.place on ∙ rw at_rate_lem)))
+            (λ on. ap Some (fields.rate_read s x.set d x.place on ∙ rw at_rate_lem)))
 
-        splice_by : cond (extended s "seamless_splice_flag") (MaybeSeamlessSplice.Present (read s "splice_type") (dts_next_au s)) MaybeSeamlessSplice.Absent
+        splice_by : cond {A = Option SeamlessSplice} (extended s "seamless_splice_flag") (Some (record { splice_type = read s "splice_type"; dts_next_au = dts_next_au s })) None
             ≡ cond (eqb (g / 32 % 2) 1)
-            (MaybeSeamlessSplice.Present (bits s (8 * splice) 4)
-            (bits s (8 * splice + 4) 3 * 2 ^ 30 + bits s (8 * splice + 8) 15 * 2 ^ 15 + bits s (8 * splice + 24) 15))
-            MaybeSeamlessSplice.Absent
+            (Some (splice_at s splice))
+            None
         unfolding dts_next_au stamp33
         splice_by =
             rw (extended_is "seamless_splice_flag")
@@ -298,14 +296,13 @@ module _ (s : List ℕ) (h : Bytes s) where
             ≡ record {
               length = count;
               ltw =
-                  cond (eqb (g / 128 % 2) 1) (MaybeLtw.Present (eqb (bits s (8 * (d + 2)) 1) 1) (bits s (8 * (d + 2) + 1) 15)) MaybeLtw.Absent;
+                  cond (eqb (g / 128 % 2) 1) (Some (ltw_at s (d + 2))) None;
               piecewise_rate =
-                  cond (eqb (g / 64 % 2) 1) (MaybePiecewiseRate.Present (bits s (8 * rate + 2) 22)) MaybePiecewiseRate.Absent;
+                  cond (eqb (g / 64 % 2) 1) (Some (bits s (8 * rate + 2) 22)) None;
               seamless_splice =
                   cond (eqb (g / 32 % 2) 1)
-                  (MaybeSeamlessSplice.Present (bits s (8 * splice) 4)
-                  (bits s (8 * splice + 4) 3 * 2 ^ 30 + bits s (8 * splice + 8) 15 * 2 ^ 15 + bits s (8 * splice + 24) 15))
-                  MaybeSeamlessSplice.Absent;
+                  (Some (splice_at s splice))
+                  None;
             }
         unfolding extension_of
         extension_by =
@@ -335,12 +332,12 @@ module _ (s : List ℕ) (h : Bytes s) where
       }
 
   no_room : is_set s "PCR_flag" ≡ false → is_set s "OPCR_flag" ≡ false → is_set s "splicing_point_flag" ≡ false
-      → is_set s "transport_private_data_flag" ≡ false → is_set s "adaptation_field_extension_flag" ≡ false → room_of s ≡ Room.Enough
+      → is_set s "transport_private_data_flag" ≡ false → is_set s "adaptation_field_extension_flag" ≡ false → room_of s ≡ Ok tt
   unfolding room_of data_room wants
   no_room a b c d e = rw (a, b, c, d) (no_extension_room e)
 
   -- a field with no part but a PCR, and room for that
-  pub pcr_room : (f : ℕ) → Flagged s f → f % 16 ≡ 0 → 8 ≤ length s → room_of s ≡ Room.Enough
+  pub pcr_room : (f : ℕ) → Flagged s f → f % 16 ≡ 0 → 8 ≤ length s → room_of s ≡ Ok tt
   unfolding room_of data_room
   pcr_room f k z l =
       wants_by (length s) (place s "program_clock_reference_base") 2 6 6 (is_set s "PCR_flag") (is_set s "PCR_flag") _ _ refl
@@ -353,7 +350,7 @@ module _ (s : List ℕ) (h : Bytes s) where
       none : is_set s "transport_private_data_flag" ≡ false
       none = private_on f k ∙ ne_eqb (f / 2 % 2) 1 (λ e. omega arith)
 
-      either : (q : Bool) → cond (q && false) (Room.Truncated (length s - 2) 6) Room.Enough ≡ Room.Enough
+      either : (q : Bool) → cond {A = Result ⊤ Truncated} (q && false) (Err (cut (length s - 2) 6)) (Ok tt) ≡ Ok tt
       either true = refl
       either false = refl
 
@@ -369,7 +366,7 @@ module _ (s : List ℕ) (h : Bytes s) where
     short : has_flags (field table_2_6 s) ≡ false
     short = rw zero_length
 
-    pub empty_field_room : field_room s ≡ Room.Enough
+    pub empty_field_room : field_room s ≡ Ok tt
     unfolding field_room
     empty_field_room =
         no_wants (length s) 0 2 (ltb 0 (read s "adaptation_field_length")) (room_of s) short
@@ -381,11 +378,11 @@ module _ (s : List ℕ) (h : Bytes s) where
           discontinuity_indicator = false;
           random_access_indicator = false;
           elementary_stream_priority_indicator = false;
-          pcr = MaybeClockReference.Absent;
-          opcr = MaybeClockReference.Absent;
-          splice_countdown = MaybeSpliceCountdown.Absent;
-          transport_private_data = MaybePrivateData.Absent;
-          adaptation_field_extension = MaybeExtension.Absent;
+          pcr = None;
+          opcr = None;
+          splice_countdown = None;
+          transport_private_data = None;
+          adaptation_field_extension = None;
         }
     unfolding adaptation_field_of
     empty_field =
@@ -405,7 +402,7 @@ module _ (s : List ℕ) (h : Bytes s) where
     long : ltb 0 (read s "adaptation_field_length") ≡ true
     long = rw length_is (lt-ltb 0 (get_or s 0 0) some)
 
-    pub short_field_room : length s < 2 → field_room s ≡ Room.Truncated (length s) 2
+    pub short_field_room : length s < 2 → field_room s ≡ Err (cut (length s) 2)
     unfolding field_room wants
     short_field_room l = rw (long, lt-ltb (length s) 2 l, sub-zero (length s))
 

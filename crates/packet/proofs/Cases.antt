@@ -9,9 +9,10 @@ use lib.ListN.{length, take, drop}
 use borrow.Author.Tests.{lt-ltb, le-ltb, ltb-true, ltb-false}
 use Rattle.syntax.specs.Table.{field}
 use Rattle.syntax.specs.Packet.{table_2_2}
-use Rattle.packet.specs.declared.MaybeAdaptationField.{MaybeAdaptationField}
-use Rattle.packet.specs.declared.Parse.{Parse}
-use Rattle.packet.specs.AdaptationField.{field_of}
+use Rattle.std.specs.Prelude.{None}
+use Rattle.std.specs.Prelude.{Ok, Err}
+use Rattle.packet.specs.declared.TsError.{TsError}
+use Rattle.packet.specs.AdaptationField.{cut, field_of}
 use Rattle.packet.specs.Packet.{has_adaptation_field, packet_of, with_field, field_length, parse_of}
 
 module _ (w : List ℕ) where
@@ -21,21 +22,21 @@ module _ (w : List ℕ) where
   abbrev control : Bool
   control = has_adaptation_field (field table_2_2 w "adaptation_field_control")
 
-  pub truncated : length w < 188 → parse_of w ≡ Parse.Truncated (length w) 188
+  pub truncated : length w < 188 → parse_of w ≡ Err (TsError.Truncated (cut (length w) 188))
   unfolding parse_of
   truncated l = rw (lt-ltb (length w) 188 l)
 
   module _ (long : 188 ≤ length w) where
-    pub bad_sync : sync ≡ false → parse_of w ≡ Parse.BadSyncByte (field table_2_2 w "sync_byte")
+    pub bad_sync : sync ≡ false → parse_of w ≡ Err (TsError.BadSyncByte (field table_2_2 w "sync_byte"))
     unfolding parse_of
     bad_sync s = rw (le-ltb (length w) 188 long, s)
 
     module _ (s : sync ≡ true) where
-      pub bare : control ≡ false → parse_of w ≡ Parse.Packet (packet_of w MaybeAdaptationField.Absent 4)
+      pub bare : control ≡ false → parse_of w ≡ Ok (packet_of w None 4)
       unfolding parse_of
       bare c = rw (le-ltb (length w) 188 long, s, c)
 
-      pub overlong : control ≡ true → ltb 188 (4 + field_length w) ≡ true → parse_of w ≡ Parse.Truncated 184 (field_length w)
+      pub overlong : control ≡ true → ltb 188 (4 + field_length w) ≡ true → parse_of w ≡ Err (TsError.Truncated (cut 184 (field_length w)))
       unfolding parse_of
       overlong c o = rw (le-ltb (length w) 188 long, s, c, o)
 

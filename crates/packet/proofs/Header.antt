@@ -15,10 +15,12 @@ use Rattle.syntax.proofs.Bits.{byte}
 use Rattle.syntax.proofs.Bytes.{Bytes, bytes_drop}
 use Rattle.syntax.proofs.Packet as laws
 use Rattle.syntax.proofs.AdaptationField.{adaptation_field_length}
-use Rattle.packet.specs.declared.MaybeAdaptationField.{MaybeAdaptationField}
-use Rattle.packet.specs.declared.AdaptationFieldParse.{AdaptationFieldParse}
-use Rattle.packet.specs.declared.Parse.{Parse}
-use Rattle.packet.specs.AdaptationField.{field_of}
+use Rattle.std.specs.Prelude.{Option, None}
+use Rattle.std.specs.Prelude.{Result, Ok, Err}
+use Rattle.packet.specs.declared.AdaptationField.{AdaptationField}
+use Rattle.packet.specs.declared.Truncated.{Truncated}
+use Rattle.packet.specs.declared.TsError.{TsError}
+use Rattle.packet.specs.AdaptationField.{cut, field_of}
 use Rattle.packet.specs.Packet.{has_adaptation_field, has_payload, packet_of, with_field, field_length, parse_of}
 use Rattle.packet.proofs.Cases.{bad_sync, bare, overlong, fitting}
 
@@ -44,7 +46,7 @@ field_bit b =
     (λ n e. eq-eqb (b / 16 % 4) 3 (omega (arith, eqb-false (b / 16 % 4) 2 n, eqb-true (b / 32 % 2) 1 e)))
 
 module _ (w : List ℕ) (h : Bytes w) where
-  pub packet_by : (f : MaybeAdaptationField) (from : ℕ)
+  pub packet_by : (f : Option AdaptationField) (from : ℕ)
       → packet_of w f from
       ≡ record {
         pid = get_or w 1 0 % 32 * 256 + get_or w 2 0;
@@ -81,14 +83,14 @@ module _ (w : List ℕ) (h : Bytes w) where
   sync_on = ap (λ (b : ℕ). eqb b 0x47) (laws.sync_byte w h)
 
   module _ (long : 188 ≤ length w) where
-    pub parse_sync : (get_or w 0 0 ≡ 0x47 → ⊥) → parse_of w ≡ Parse.BadSyncByte (get_or w 0 0)
-    parse_sync n = bad_sync w long (sync_on ∙ ne_eqb (get_or w 0 0) 0x47 n) ∙ ap Parse.BadSyncByte (laws.sync_byte w h)
+    pub parse_sync : (get_or w 0 0 ≡ 0x47 → ⊥) → parse_of w ≡ Err (TsError.BadSyncByte (get_or w 0 0))
+    parse_sync n = bad_sync w long (sync_on ∙ ne_eqb (get_or w 0 0) 0x47 n) ∙ ap (λ (b : ℕ). Err (TsError.BadSyncByte b)) (laws.sync_byte w h)
 
     module _ (s : get_or w 0 0 ≡ 0x47) where
       synced : eqb (field table_2_2 w "sync_byte") 0x47 ≡ true
       synced = sync_on ∙ eq-eqb (get_or w 0 0) 0x47 s
 
-      pub parse_bare : (get_or w 3 0 / 32 % 2 ≡ 1 → ⊥) → parse_of w ≡ Parse.Packet (packet_of w MaybeAdaptationField.Absent 4)
+      pub parse_bare : (get_or w 3 0 / 32 % 2 ≡ 1 → ⊥) → parse_of w ≡ Ok (packet_of w None 4)
       parse_bare n = bare w long synced (field_on_lem ∙ ne_eqb (get_or w 3 0 / 32 % 2) 1 n)
 
       module _ (on : get_or w 3 0 / 32 % 2 ≡ 1) (n : ℕ) (is : n ≡ get_or w 4 0) where
@@ -98,11 +100,11 @@ module _ (w : List ℕ) (h : Bytes w) where
         total : field_length w ≡ n + 1
         total = field_length_lem ∙ ap (λ (x : ℕ). x + 1) (sym is)
 
-        pub parse_over : 188 < 4 + (n + 1) → parse_of w ≡ Parse.Truncated 184 (n + 1)
+        pub parse_over : 188 < 4 + (n + 1) → parse_of w ≡ Err (TsError.Truncated (cut 184 (n + 1)))
         parse_over g =
-            overlong w long synced there (ap (λ (t : ℕ). ltb 188 (4 + t)) total ∙ lt-ltb 188 (4 + (n + 1)) g) ∙ ap (Parse.Truncated 184) total
+            overlong w long synced there (ap (λ (t : ℕ). ltb 188 (4 + t)) total ∙ lt-ltb 188 (4 + (n + 1)) g) ∙ ap (λ (t : ℕ). Err (TsError.Truncated (cut 184 t))) total
 
-        pub parse_field : 4 + (n + 1) ≤ 188 → (x : AdaptationFieldParse) → x ≡ field_of (take (4 + (n + 1) - 4) (drop 4 w))
+        pub parse_field : 4 + (n + 1) ≤ 188 → (x : Result AdaptationField Truncated) → x ≡ field_of (take (4 + (n + 1) - 4) (drop 4 w))
             → parse_of w ≡ with_field w (4 + (n + 1)) x
         parse_field g x e =
             let k : 4 + (n + 1) - 4 ≡ n + 1 = omega arith in

@@ -12,7 +12,7 @@ use lib.ListN.{length, get_or, take, drop, length-take, length-drop}
 use lib.Seq.{get_or-take, get_or-drop, take_all}
 use borrow.Author.Tests.{eqb-true, eqb-false, leb-true, le-leb, lt-leb}
 use Rattle.packet.specs.declared.TsPacketLayout.{TsPacketLayout}
-use Rattle.packet.specs.declared.Detected.{Detected}
+use Rattle.std.specs.Prelude.{Some, None}
 use Rattle.packet.specs.Layout.{in_sync, on_grid, layout, layout_of, window_of}
 use Rattle.packet.specs.Packet.{payload_of}
 use Rattle.packet.proofs.Grid.{sync_not, in_packet_lem}
@@ -53,7 +53,7 @@ pub record Found (l : List ℕ) (y : TsPacketLayout) : Type 0 where
   pub known : Known y
   pub fits : Fits l y.packet_size y.sync_offset
 
-pub found : (l : List ℕ) (y : TsPacketLayout) → layout_of l ≡ Detected.Found y → Found l y
+pub found : (l : List ℕ) (y : TsPacketLayout) → layout_of l ≡ Some y → Found l y
 unfolding layout_of
 found l y is = go (on_grid l 188 0) (on_grid l 192 4) (on_grid l 204 0) refl refl refl is
   where
@@ -61,8 +61,8 @@ found l y is = go (on_grid l 188 0) (on_grid l 192 4) (on_grid l 204 0) refl ref
     one size off e k p = rw (sym p) (record { known = k; fits = grid_fits l size off e })
 
     go : (a b c : Bool) → on_grid l 188 0 ≡ a → on_grid l 192 4 ≡ b → on_grid l 204 0 ≡ c
-        → cond a (Detected.Found (layout 188 0)) (cond b (Detected.Found (layout 192 4)) (cond c (Detected.Found (layout 204 0)) Detected.Nothing))
-        ≡ Detected.Found y
+        → cond a (Some (layout 188 0)) (cond b (Some (layout 192 4)) (cond c (Some (layout 204 0)) None))
+        ≡ Some y
         → Found l y
     go true b c ea eb ec p = one 188 0 ea standard (cc)
     go false true c ea eb ec p = one 192 4 eb prefixed (cc)

@@ -13,50 +13,49 @@ use Rattle.syntax.proofs.Bits.{bound}
 use Rattle.syntax.proofs.Packet.{places}
 use Rattle.syntax.proofs.AdaptationField as laws
 use Rattle.packet.specs.declared.ClockReference.{ClockReference}
-use Rattle.packet.specs.declared.MaybeClockReference.{MaybeClockReference}
 use Rattle.packet.specs.declared.AdaptationField.{AdaptationField}
-use Rattle.packet.specs.declared.MaybeAdaptationField.{MaybeAdaptationField}
-use Rattle.packet.specs.declared.AdaptationFieldParse.{AdaptationFieldParse}
-use Rattle.packet.specs.declared.Room.{Room}
 use Rattle.packet.specs.declared.TsPacket.{TsPacket}
-use Rattle.packet.specs.declared.Parse.{Parse}
+use Rattle.std.proofs.lemmas.Option.{none-some, cond_some}
+use Rattle.std.specs.Prelude.{Option, Some, None, Result, Ok, Err, ⊤}
+use Rattle.packet.specs.declared.Truncated.{Truncated}
+use Rattle.packet.specs.declared.TsError.{TsError}
 use Rattle.packet.specs.AdaptationField.{is_set, pcr_of, opcr_of, adaptation_field_of, field_in, field_room, field_of, pcr_ticks}
 use Rattle.packet.specs.Packet.{has_payload, packet_of, with_field, field_length, parse_of}
 use Rattle.packet.proofs.Cases.{Way, way, is_truncated, is_bad_sync, is_bare, is_overlong, is_fitting, truncated, bad_sync, bare, overlong, fitting}
 
 -- an adaptation field that parses has the values of table 2-6
-in_room : (raw : List ℕ) (r : Room) (f : AdaptationField) → field_in raw r ≡ AdaptationFieldParse.Field f → f ≡ adaptation_field_of raw
+in_room : (raw : List ℕ) (r : Result ⊤ Truncated) (f : AdaptationField) → field_in raw r ≡ Ok f → f ≡ adaptation_field_of raw
 unfolding field_in
-in_room raw Room.Enough f p = cc
-in_room raw (Room.Truncated have need) f p =
+in_room raw (Ok x) f p = cc
+in_room raw (Err t) f p =
     let z : ◌≡◌ {A = ℕ} 0 1 = cc in
     absurd (omega arith)
 
-field_values : (raw : List ℕ) (f : AdaptationField) → field_of raw ≡ AdaptationFieldParse.Field f → f ≡ adaptation_field_of raw
+field_values : (raw : List ℕ) (f : AdaptationField) → field_of raw ≡ Ok f → f ≡ adaptation_field_of raw
 unfolding field_of
 field_values raw f e = in_room raw (field_room raw) f e
 
 -- a packet that parses: without an adaptation field, or with one that fits
 pub data Shape (w : List ℕ) (h : TsPacket) : Type 0 where
-  bare_packet : h ≡ packet_of w MaybeAdaptationField.Absent 4 → Shape w h
+  bare_packet : h ≡ packet_of w None 4 → Shape w h
   field_packet : 4 + field_length w ≤ 188
-      → h ≡ packet_of w (MaybeAdaptationField.Present (adaptation_field_of (take (field_length w) (drop 4 w)))) (4 + field_length w) → Shape w h
+      → h ≡ packet_of w (Some (adaptation_field_of (take (field_length w) (drop 4 w)))) (4 + field_length w) → Shape w h
 
-module _ (w : List ℕ) (h : TsPacket) (is : parse_of w ≡ Parse.Packet h) where
-  other : {x : Parse} → parse_of w ≡ x → (x ≡ Parse.Packet h → ◌≡◌ {A = ℕ} 0 1) → Shape w h
+module _ (w : List ℕ) (h : TsPacket) (is : parse_of w ≡ Ok h) where
+  other : {x : Result TsPacket TsError} → parse_of w ≡ x → (x ≡ Ok h → ◌≡◌ {A = ℕ} 0 1) → Shape w h
   other e n = absurd (go (n (sym e ∙ is)))
     where
       go : ◌≡◌ {A = ℕ} 0 1 → ⊥
       go z = omega arith
 
-  with_field_lem : 4 + field_length w ≤ 188 → (x : AdaptationFieldParse) → field_of (take (field_length w) (drop 4 w)) ≡ x
+  with_field_lem : 4 + field_length w ≤ 188 → (x : Result AdaptationField Truncated) → field_of (take (field_length w) (drop 4 w)) ≡ x
       → parse_of w ≡ with_field w (4 + field_length w) x → Shape w h
   unfolding with_field
-  with_field_lem fits (AdaptationFieldParse.Truncated have need) e p = other p (λ q. cc)
-  with_field_lem fits (AdaptationFieldParse.Field f) e p =
-      let q : h ≡ packet_of w (MaybeAdaptationField.Present f) (4 + field_length w) = cc in
+  with_field_lem fits (Err t) e p = other p (λ q. cc)
+  with_field_lem fits (Ok f) e p =
+      let q : h ≡ packet_of w (Some f) (4 + field_length w) = cc in
       field_packet fits
-      (q ∙ ap (λ (g : AdaptationField). packet_of w (MaybeAdaptationField.Present g) (4 + field_length w)) (field_values (take (field_length w) (drop 4 w)) f e))
+      (q ∙ ap (λ (g : AdaptationField). packet_of w (Some g) (4 + field_length w)) (field_values (take (field_length w) (drop 4 w)) f e))
 
   pub shape : Shape w h
   shape = go (way w)
@@ -110,28 +109,21 @@ module _ (raw : List ℕ) where
             small (is_set raw "OPCR_flag") _ _ 512 (laws.original_program_clock_reference_extension raw) (bound raw (laws.opcr_at raw + 39) 9);
       }
 
--- a clock reference that is there
-there : (t : Bool) (x c : ClockReference) → cond t (MaybeClockReference.Present x) MaybeClockReference.Absent ≡ MaybeClockReference.Present c → x ≡ c
-there true x c e = cc
-there false x c e =
-    let z : ◌≡◌ {A = ℕ} 0 1 = cc in
-    absurd (omega arith)
-
 pub record Parsed (h : TsPacket) : Type 0 where
   pub pid_small : h.pid < 8192
   pub scrambling_small : h.transport_scrambling_control < 4
   pub continuity_small : h.continuity_counter < 16
   pub start_low : 4 ≤ h.payload_start
   pub start_high : h.payload_start ≤ 188
-  pub pcr_small : (f : AdaptationField) (c : ClockReference) → h.adaptation_field ≡ MaybeAdaptationField.Present f
-      → f.pcr ≡ MaybeClockReference.Present c → Small c
-  pub opcr_small : (f : AdaptationField) (c : ClockReference) → h.adaptation_field ≡ MaybeAdaptationField.Present f
-      → f.opcr ≡ MaybeClockReference.Present c → Small c
+  pub pcr_small : (f : AdaptationField) (c : ClockReference) → h.adaptation_field ≡ Some f
+      → f.pcr ≡ Some c → Small c
+  pub opcr_small : (f : AdaptationField) (c : ClockReference) → h.adaptation_field ≡ Some f
+      → f.opcr ≡ Some c → Small c
 
 -- the bounds of a packet whose adaptation field's clock references are small
-of_packet : (w : List ℕ) (m : MaybeAdaptationField) (from : ℕ) → 4 ≤ from → from ≤ 188
-    → ((f : AdaptationField) (c : ClockReference) → m ≡ MaybeAdaptationField.Present f → f.pcr ≡ MaybeClockReference.Present c → Small c)
-    → ((f : AdaptationField) (c : ClockReference) → m ≡ MaybeAdaptationField.Present f → f.opcr ≡ MaybeClockReference.Present c → Small c)
+of_packet : (w : List ℕ) (m : Option AdaptationField) (from : ℕ) → 4 ≤ from → from ≤ 188
+    → ((f : AdaptationField) (c : ClockReference) → m ≡ Some f → f.pcr ≡ Some c → Small c)
+    → ((f : AdaptationField) (c : ClockReference) → m ≡ Some f → f.opcr ≡ Some c → Small c)
     → Parsed (packet_of w m from)
 unfolding packet_of
 of_packet w m from low high p o =
@@ -153,34 +145,29 @@ of_packet w m from low high p o =
     from_high true = high
     from_high false = omega arith
 
-absent : {A : Type 0} (f : AdaptationField) → MaybeAdaptationField.Absent ≡ MaybeAdaptationField.Present f → A
-absent f e =
-    let z : ◌≡◌ {A = ℕ} 0 1 = cc in
-    absurd (omega arith)
-
 -- the clock references of an adaptation field's values
 module _ (raw : List ℕ) (f : AdaptationField) (c : ClockReference)
-    (is : MaybeAdaptationField.Present (adaptation_field_of raw) ≡ MaybeAdaptationField.Present f) where
+    (is : Some (adaptation_field_of raw) ≡ Some f) where
   values : adaptation_field_of raw ≡ f
   values = cc
 
-  pcr_there : f.pcr ≡ MaybeClockReference.Present c → Small c
+  pcr_there : f.pcr ≡ Some c → Small c
   unfolding adaptation_field_of
-  pcr_there b = subst Small (there (is_set raw "PCR_flag") (pcr_of raw) c (ap (λ (g : AdaptationField). g.pcr) values ∙ b)) (pcr_small raw)
+  pcr_there b = subst Small (cond_some (is_set raw "PCR_flag") (pcr_of raw) c (ap (λ (g : AdaptationField). g.pcr) values ∙ b)).1 (pcr_small raw)
 
-  opcr_there : f.opcr ≡ MaybeClockReference.Present c → Small c
+  opcr_there : f.opcr ≡ Some c → Small c
   unfolding adaptation_field_of
-  opcr_there b = subst Small (there (is_set raw "OPCR_flag") (opcr_of raw) c (ap (λ (g : AdaptationField). g.opcr) values ∙ b)) (opcr_small raw)
+  opcr_there b = subst Small (cond_some (is_set raw "OPCR_flag") (opcr_of raw) c (ap (λ (g : AdaptationField). g.opcr) values ∙ b)).1 (opcr_small raw)
 
-pub parsed : (w : List ℕ) (h : TsPacket) → parse_of w ≡ Parse.Packet h → Parsed h
+pub parsed : (w : List ℕ) (h : TsPacket) → parse_of w ≡ Ok h → Parsed h
 parsed w h is = go (shape w h is)
   where
     go : Shape w h → Parsed h
-    go (bare_packet e) = rw e (of_packet w MaybeAdaptationField.Absent 4 (omega arith) (omega arith) (λ f c a b. absent f a) (λ f c a b. absent f a))
+    go (bare_packet e) = rw e (of_packet w None 4 (omega arith) (omega arith) (λ f c a b. absurd (none-some f a)) (λ f c a b. absurd (none-some f a)))
     go (field_packet fits e) =
         let raw = take (field_length w) (drop 4 w) in
         rw e
-        (of_packet w (MaybeAdaptationField.Present (adaptation_field_of raw)) (4 + field_length w) (omega arith) fits (pcr_there raw) (opcr_there raw))
+        (of_packet w (Some (adaptation_field_of raw)) (4 + field_length w) (omega arith) fits (pcr_there raw) (opcr_there raw))
 
 -- ticks of a clock reference: an extension of 300 to 511 can pass a multiple of 300
 pub ticks_small : (c : ClockReference) → Small c → pcr_ticks c < 2 ^ 33 * 300 + 212

@@ -14,9 +14,12 @@ use Rattle.syntax.specs.Packet.{table_2_2}
 use Rattle.syntax.proofs.Bits.{alike}
 use Rattle.syntax.proofs.Packet.{places}
 use Rattle.syntax.proofs.AdaptationField.{adaptation_field_length}
-use Rattle.packet.specs.declared.MaybeAdaptationField.{MaybeAdaptationField}
-use Rattle.packet.specs.declared.AdaptationFieldParse.{AdaptationFieldParse}
-use Rattle.packet.specs.declared.Parse.{Parse}
+use Rattle.std.specs.Prelude.{Option, Some, None}
+use Rattle.std.specs.Prelude.{Result, Ok, Err}
+use Rattle.packet.specs.declared.AdaptationField.{AdaptationField}
+use Rattle.packet.specs.declared.Truncated.{Truncated}
+use Rattle.packet.specs.declared.TsPacket.{TsPacket}
+use Rattle.packet.specs.declared.TsError.{TsError}
 use Rattle.packet.specs.AdaptationField.{field_of}
 use Rattle.packet.specs.Packet.{has_adaptation_field, has_payload, packet_of, with_field, field_length, parse_of, payload_from}
 use Rattle.packet.proofs.Cases.{Way, way, is_truncated, is_bad_sync, is_bare, is_overlong, is_fitting, bad_sync, bare, overlong, fitting}
@@ -41,7 +44,7 @@ module _ (w v : List ℕ) (same : (j : ℕ) → j < 4 → get_or w j 0 ≡ get_o
   control_same =
       (places w).adaptation_field_control ∙ alike w v 26 2 (λ i a b. same i (omega arith)) ∙ sym (places v).adaptation_field_control
 
-  packet_same : (f : MaybeAdaptationField) (from : ℕ) → packet_of w f from ≡ packet_of v f from
+  packet_same : (f : Option AdaptationField) (from : ℕ) → packet_of w f from ≡ packet_of v f from
   unfolding packet_of
   packet_same f from =
       λ i.
@@ -64,7 +67,7 @@ module _ (w v : List ℕ) (same : (j : ℕ) → j < 4 → get_or w j 0 ≡ get_o
       }
 
 -- the payload begins behind header and adaptation field
-pub start_after : (w : List ℕ) (f : MaybeAdaptationField) (from : ℕ) → from ≤ 188 → from ≤ payload_from (Parse.Packet (packet_of w f from))
+pub start_after : (w : List ℕ) (f : Option AdaptationField) (from : ℕ) → from ≤ 188 → from ≤ payload_from (Ok (packet_of w f from))
 unfolding payload_from packet_of
 start_after w f from h = go (has_payload (field table_2_2 w "adaptation_field_control"))
   where
@@ -75,7 +78,7 @@ start_after w f from h = go (has_payload (field table_2_2 w "adaptation_field_co
 module _ (w v : List ℕ) (wide : length w ≡ 188) (wide' : length v ≡ 188)
     (same : (j : ℕ) → j < payload_from (parse_of w) → get_or w j 0 ≡ get_or v j 0) where
   -- where the first fails, the two are one
-  failed : {x : Parse} → parse_of w ≡ x → payload_from x ≡ 188 → parse_of w ≡ parse_of v
+  failed : {x : Result TsPacket TsError} → parse_of w ≡ x → payload_from x ≡ 188 → parse_of w ≡ parse_of v
   failed p e = ap parse_of (ext_get_or 0 w v (omega arith) (λ i h. same i (rw (p, e) (omega arith))))
 
   below : (n : ℕ) → n ≤ payload_from (parse_of w) → (j : ℕ) → j < n → get_or w j 0 ≡ get_or v j 0
@@ -83,14 +86,14 @@ module _ (w v : List ℕ) (wide : length w ≡ 188) (wide' : length v ≡ 188)
 
   as_field : eqb (field table_2_2 w "sync_byte") 0x47 ≡ true
       → has_adaptation_field (field table_2_2 w "adaptation_field_control") ≡ true → 4 + field_length w ≤ 188
-      → ltb 188 (4 + field_length w) ≡ false → (x : AdaptationFieldParse) → field_of (take (field_length w) (drop 4 w)) ≡ x → parse_of w ≡ parse_of v
+      → ltb 188 (4 + field_length w) ≡ false → (x : Result AdaptationField Truncated) → field_of (take (field_length w) (drop 4 w)) ≡ x → parse_of w ≡ parse_of v
   unfolding with_field payload_from
-  as_field s c fits o (AdaptationFieldParse.Truncated have need) e =
+  as_field s c fits o (Err t) e =
       failed (fitting w (omega arith) s c o ∙ ap (with_field w (4 + field_length w)) e) refl
-  as_field s c fits o (AdaptationFieldParse.Field f) e =
-      let p : parse_of w ≡ Parse.Packet (packet_of w (MaybeAdaptationField.Present f) (4 + field_length w)) =
+  as_field s c fits o (Ok f) e =
+      let p : parse_of w ≡ Ok (packet_of w (Some f) (4 + field_length w)) =
       fitting w (omega arith) s c o ∙ ap (with_field w (4 + field_length w)) e in
-      let low : 4 + field_length w ≤ payload_from (parse_of w) = rw p (start_after w (MaybeAdaptationField.Present f) (4 + field_length w) fits) in
+      let low : 4 + field_length w ≤ payload_from (parse_of w) = rw p (start_after w (Some f) (4 + field_length w) fits) in
       let head = below 4 (omega arith) in
       let e4 : field_length w ≡ field_length v =
       ap (λ (n : ℕ). n + 1)
@@ -107,12 +110,11 @@ module _ (w v : List ℕ) (wide : length w ≡ 188) (wide' : length v ≡ 188)
       ∙ ap (with_field v (4 + field_length v)) (ap field_of (sym part) ∙ e))
     where
       packet_path : ((j : ℕ) → j < 4 → get_or w j 0 ≡ get_or v j 0) → field_length w ≡ field_length v
-          → Parse.Packet (packet_of w (MaybeAdaptationField.Present f) (4 + field_length w))
-          ≡ Parse.Packet (packet_of v (MaybeAdaptationField.Present f) (4 + field_length v))
+          → ◌≡◌ {A = Result TsPacket TsError} (Ok (packet_of w (Some f) (4 + field_length w))) (Ok (packet_of v (Some f) (4 + field_length v)))
       packet_path head e4 =
-          ap Parse.Packet
-          (packet_same w v head (MaybeAdaptationField.Present f) (4 + field_length w)
-          ∙ ap (λ (n : ℕ). packet_of v (MaybeAdaptationField.Present f) (4 + n)) e4)
+          ap Ok
+          (packet_same w v head (Some f) (4 + field_length w)
+          ∙ ap (λ (n : ℕ). packet_of v (Some f) (4 + n)) e4)
 
   pub parse_same : parse_of w ≡ parse_of v
   unfolding payload_from
@@ -125,9 +127,9 @@ module _ (w v : List ℕ) (wide : length w ≡ 188) (wide' : length v ≡ 188)
       go (is_fitting l s c o) = as_field s c (ltb-false 188 (4 + field_length w) o) o _ refl
       go (is_bare l s c) =
           let p = bare w l s c in
-          let low : 4 ≤ payload_from (parse_of w) = rw p (start_after w MaybeAdaptationField.Absent 4 (omega arith)) in
+          let low : 4 ≤ payload_from (parse_of w) = rw p (start_after w None 4 (omega arith)) in
           let head = below 4 low in
-          p ∙ ap Parse.Packet (packet_same w v head MaybeAdaptationField.Absent 4)
+          p ∙ ap Ok (packet_same w v head None 4)
           ∙ sym
           (bare v (omega arith) (ap (λ (b : ℕ). eqb b 0x47) (sym (sync_same w v head)) ∙ s)
           (ap has_adaptation_field (sym (control_same w v head)) ∙ c))

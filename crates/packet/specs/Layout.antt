@@ -1,7 +1,6 @@
 -- The physical layout of a recording, and the 188 bytes of its packets (document 01, `detect_packet_layout`).
-use Rattle.std.specs.Prelude.{ℕ, zero, suc, ◌+◌, ◌*◌, ◌/◌, min, List, [], Bool, true, cond, ◌&&◌, length, get_or, take, drop, leb, eqb}
+use Rattle.std.specs.Prelude.{ℕ, zero, suc, ◌+◌, ◌*◌, ◌/◌, min, List, [], Bool, true, cond, ◌&&◌, length, get_or, take, drop, leb, eqb, Option, Some, None}
 use Rattle.packet.specs.declared.TsPacketLayout.{TsPacketLayout}
-use Rattle.packet.specs.declared.Detected.{Detected}
 
 -- each of the first n packets has the sync byte at its place
 abbrev pub in_sync : List ℕ → ℕ → ℕ → ℕ → Bool
@@ -15,11 +14,11 @@ on_grid l size off = leb 2 (length l / size) && in_sync l size off (min (length 
 abbrev pub layout : ℕ → ℕ → TsPacketLayout
 layout size off = record { packet_size = size; sync_offset = off }
 
-unfoldable pub layout_of : List ℕ → Detected
+unfoldable pub layout_of : List ℕ → Option TsPacketLayout
 layout_of l =
-    cond (on_grid l 188 0) (Detected.Found (layout 188 0))
-    (cond (on_grid l 192 4) (Detected.Found (layout 192 4))
-    (cond (on_grid l 204 0) (Detected.Found (layout 204 0)) Detected.Nothing))
+    cond (on_grid l 188 0) (Some (layout 188 0))
+    (cond (on_grid l 192 4) (Some (layout 192 4))
+    (cond (on_grid l 204 0) (Some (layout 204 0)) None))
 
 -- the 188 bytes of packet k; none where the recording ends sooner
 unfoldable pub window_of : List ℕ → ℕ → ℕ → ℕ → List ℕ

@@ -2,10 +2,10 @@
 // Contracts cite the fields of tables 2-2 and 2-6 by name; only the code reads bytes.
 #![tactic(auto)]
 
-ghost use Rattle.std.specs.Prelude.{◌≡◌, cond, true, false, ◌&&◌, [], ◌+◌, ◌-◌, ◌*◌, ◌/◌, ◌%◌, ◌^◌, ◌≤◌, ◌<◌, min, eqb, ltb, leb, length, get_or, take, drop};
+ghost use Rattle.std.specs.Prelude.{◌≡◌, cond, true, false, ◌&&◌, [], ◌+◌, ◌-◌, ◌*◌, ◌/◌, ◌%◌, ◌^◌, ◌≤◌, ◌<◌, min, eqb, ltb, leb, length, get_or, take, drop, Option, Some, None};
 ghost use Rattle.syntax.specs.Bits.{bits};
 ghost use Rattle.packet.specs.AdaptationField.{field_of, field_room, is_set, room_of, data_room, extension_room, extension_fields_room, adaptation_field_of, extension_of, tcimsbf8};
-ghost use Rattle.packet.specs.Places.{Flagged, Placed, Extended};
+ghost use Rattle.packet.specs.Places.{Flagged, Placed, Extended, clock_at, private_data_at, ltw_at, splice_at};
 ghost use Rattle.packet.specs.Packet.{parse_of, packet_of, payload_of, private_data_of};
 ghost use Rattle.packet.specs.Layout.{on_grid, layout_of, window_of};
 
@@ -16,55 +16,31 @@ pub struct ClockReference {
     pub extension: u16,
 }
 
-#[derive(Clone, Copy)]
-pub enum MaybeClockReference {
-    Absent,
-    Present(ClockReference),
-}
-
-#[derive(Clone, Copy)]
-pub enum MaybeSpliceCountdown {
-    Absent,
-    Present(i8),
-}
-
 // The private data bytes: where they begin in the adaptation field, counted from its length byte, and how many they are.
 #[derive(Clone, Copy)]
-pub enum MaybePrivateData {
-    Absent,
-    Present { start: usize, len: usize },
+pub struct PrivateData {
+    pub start: usize,
+    pub len: usize,
 }
 
 #[derive(Clone, Copy)]
-pub enum MaybeLtw {
-    Absent,
-    Present { valid: bool, offset: u16 },
+pub struct Ltw {
+    pub valid: bool,
+    pub offset: u16,
 }
 
 #[derive(Clone, Copy)]
-pub enum MaybePiecewiseRate {
-    Absent,
-    Present(u32),
-}
-
-#[derive(Clone, Copy)]
-pub enum MaybeSeamlessSplice {
-    Absent,
-    Present { splice_type: u8, dts_next_au: u64 },
+pub struct SeamlessSplice {
+    pub splice_type: u8,
+    pub dts_next_au: u64,
 }
 
 #[derive(Clone, Copy)]
 pub struct AdaptationFieldExtension {
     pub length: u8,
-    pub ltw: MaybeLtw,
-    pub piecewise_rate: MaybePiecewiseRate,
-    pub seamless_splice: MaybeSeamlessSplice,
-}
-
-#[derive(Clone, Copy)]
-pub enum MaybeExtension {
-    Absent,
-    Present(AdaptationFieldExtension),
+    pub ltw: Option<Ltw>,
+    pub piecewise_rate: Option<u32>,
+    pub seamless_splice: Option<SeamlessSplice>,
 }
 
 // An optional part is present exactly if its flag is set.
@@ -74,17 +50,11 @@ pub struct AdaptationField {
     pub discontinuity_indicator: bool,
     pub random_access_indicator: bool,
     pub elementary_stream_priority_indicator: bool,
-    pub pcr: MaybeClockReference,
-    pub opcr: MaybeClockReference,
-    pub splice_countdown: MaybeSpliceCountdown,
-    pub transport_private_data: MaybePrivateData,
-    pub adaptation_field_extension: MaybeExtension,
-}
-
-#[derive(Clone, Copy)]
-pub enum MaybeAdaptationField {
-    Absent,
-    Present(AdaptationField),
+    pub pcr: Option<ClockReference>,
+    pub opcr: Option<ClockReference>,
+    pub splice_countdown: Option<i8>,
+    pub transport_private_data: Option<PrivateData>,
+    pub adaptation_field_extension: Option<AdaptationFieldExtension>,
 }
 
 #[derive(Clone, Copy)]
@@ -95,29 +65,33 @@ pub struct TsPacket {
     pub transport_priority: bool,
     pub transport_scrambling_control: u8,
     pub continuity_counter: u8,
-    pub adaptation_field: MaybeAdaptationField,
+    pub adaptation_field: Option<AdaptationField>,
     // Where the payload begins: 188 where there is none.
     pub payload_start: usize,
 }
 
-#[derive(Clone, Copy)]
-pub enum Parse {
-    Packet(TsPacket),
-    Truncated { have: usize, need: usize },
+// The bytes that are there, and those that a packet or a field of it needs.
+#[derive(Clone, Copy, Debug, PartialEq, Eq)]
+pub struct Truncated {
+    pub have: usize,
+    pub need: usize,
+}
+
+// Why bytes are no packet.
+#[derive(Clone, Copy, Debug, PartialEq, Eq)]
+pub enum TsError {
+    Truncated(Truncated),
     BadSyncByte(u8),
 }
 
-// Whether the bytes that are there hold every field that is flagged.
-#[derive(Clone, Copy)]
-pub enum Room {
-    Enough,
-    Truncated { have: usize, need: usize },
-}
+impl From<Truncated> for TsError {
+    ghost use Rattle.packet.specs.declared.TsError.{TsError};
 
-#[derive(Clone, Copy)]
-pub enum AdaptationFieldParse {
-    Field(AdaptationField),
-    Truncated { have: usize, need: usize },
+    ghost from_gives = { λ t e. e ≡ TsError.Truncated t };
+
+    fn from(t: Truncated) -> TsError {
+        TsError::Truncated(t)
+    }
 }
 
 // Where the optional fields stand in an adaptation field, or would.
@@ -219,12 +193,9 @@ fn clock_extension(p4: u8, p5: u8) -> u16
     wide16(p4 % 2) * 256 + wide16(p5)
 }
 
-fn clock_field(raw: &[u8], at: usize, on: bool) -> MaybeClockReference
+fn clock_field(raw: &[u8], at: usize, on: bool) -> Option<ClockReference>
     requires { at < 1000 }
-    ensures { result ≡ cond on
-        (MaybeClockReference.Present
-        (record { base = bits raw.now (8 * at) 33; extension = bits raw.now (8 * at + 39) 9 }))
-        MaybeClockReference.Absent }
+    ensures { result ≡ cond on (Some (clock_at raw.now at)) None }
 {
     if on {
         let p0 = byte_or_zero(raw, at);
@@ -233,12 +204,12 @@ fn clock_field(raw: &[u8], at: usize, on: bool) -> MaybeClockReference
         let p3 = byte_or_zero(raw, at + 3);
         let p4 = byte_or_zero(raw, at + 4);
         let p5 = byte_or_zero(raw, at + 5);
-        return MaybeClockReference::Present(ClockReference {
+        return Some(ClockReference {
             base: clock_base(p0, p1, p2, p3, p4),
             extension: clock_extension(p4, p5),
         });
     }
-    MaybeClockReference::Absent
+    None
 }
 
 // Eight bits in two's complement.
@@ -252,42 +223,42 @@ fn signed(b: u8) -> i8
     -1 - (k as i8)
 }
 
-fn countdown_field(raw: &[u8], at: usize, on: bool) -> MaybeSpliceCountdown
-    ensures { result ≡ cond on (MaybeSpliceCountdown.Present (tcimsbf8 (bits raw.now (8 * at) 8))) MaybeSpliceCountdown.Absent }
+fn countdown_field(raw: &[u8], at: usize, on: bool) -> Option<i8>
+    ensures { result ≡ cond on (Some (tcimsbf8 (bits raw.now (8 * at) 8))) None }
 {
     if on {
         let b = byte_or_zero(raw, at);
-        return MaybeSpliceCountdown::Present(signed(b));
+        return Some(signed(b));
     }
-    MaybeSpliceCountdown::Absent
+    None
 }
 
-fn private_data_field(raw: &[u8], at: usize, on: bool) -> MaybePrivateData
+fn private_data_field(raw: &[u8], at: usize, on: bool) -> Option<PrivateData>
     requires { at < 1000 }
-    ensures { result ≡ cond on (MaybePrivateData.Present (at + 1) (bits raw.now (8 * at) 8)) MaybePrivateData.Absent }
+    ensures { result ≡ cond on (Some (private_data_at raw.now at)) None }
 {
     if on {
-        return MaybePrivateData::Present {
+        return Some(PrivateData {
             start: at + 1,
             len: length_at(raw, at),
-        };
+        });
     }
-    MaybePrivateData::Absent
+    None
 }
 
-fn ltw_field(raw: &[u8], at: usize, on: bool) -> MaybeLtw
+fn ltw_field(raw: &[u8], at: usize, on: bool) -> Option<Ltw>
     requires { at < 1000 }
-    ensures { result ≡ cond on (MaybeLtw.Present (eqb (bits raw.now (8 * at) 1) 1) (bits raw.now (8 * at + 1) 15)) MaybeLtw.Absent }
+    ensures { result ≡ cond on (Some (ltw_at raw.now at)) None }
 {
     if on {
         let b0 = byte_or_zero(raw, at);
         let b1 = byte_or_zero(raw, at + 1);
-        return MaybeLtw::Present {
+        return Some(Ltw {
             valid: b0 / 128 == 1,
             offset: wide16(b0 % 128) * 256 + wide16(b1),
-        };
+        });
     }
-    MaybeLtw::Absent
+    None
 }
 
 fn rate_of(b0: u8, b1: u8, b2: u8) -> u32
@@ -296,17 +267,17 @@ fn rate_of(b0: u8, b1: u8, b2: u8) -> u32
     wide32(b0 % 64) * 65536 + wide32(b1) * 256 + wide32(b2)
 }
 
-fn rate_field(raw: &[u8], at: usize, on: bool) -> MaybePiecewiseRate
+fn rate_field(raw: &[u8], at: usize, on: bool) -> Option<u32>
     requires { at < 1000 }
-    ensures { result ≡ cond on (MaybePiecewiseRate.Present (bits raw.now (8 * at + 2) 22)) MaybePiecewiseRate.Absent }
+    ensures { result ≡ cond on (Some (bits raw.now (8 * at + 2) 22)) None }
 {
     if on {
         let b0 = byte_or_zero(raw, at);
         let b1 = byte_or_zero(raw, at + 1);
         let b2 = byte_or_zero(raw, at + 2);
-        return MaybePiecewiseRate::Present(rate_of(b0, b1, b2));
+        return Some(rate_of(b0, b1, b2));
     }
-    MaybePiecewiseRate::Absent
+    None
 }
 
 // Three parts of a 33-bit stamp, each before a marker bit.
@@ -320,14 +291,9 @@ fn dts_of(b0: u8, b1: u8, b2: u8, b3: u8, b4: u8) -> u64
         + wide64(b4) / 2
 }
 
-fn splice_field(raw: &[u8], at: usize, on: bool) -> MaybeSeamlessSplice
+fn splice_field(raw: &[u8], at: usize, on: bool) -> Option<SeamlessSplice>
     requires { at < 1000 }
-    ensures { result ≡ cond on
-        (MaybeSeamlessSplice.Present (bits raw.now (8 * at) 4)
-        (bits raw.now (8 * at + 4) 3 * 2 ^ 30
-        + bits raw.now (8 * at + 8) 15 * 2 ^ 15
-        + bits raw.now (8 * at + 24) 15))
-        MaybeSeamlessSplice.Absent }
+    ensures { result ≡ cond on (Some (splice_at raw.now at)) None }
 {
     if on {
         let b0 = byte_or_zero(raw, at);
@@ -335,12 +301,12 @@ fn splice_field(raw: &[u8], at: usize, on: bool) -> MaybeSeamlessSplice
         let b2 = byte_or_zero(raw, at + 2);
         let b3 = byte_or_zero(raw, at + 3);
         let b4 = byte_or_zero(raw, at + 4);
-        return MaybeSeamlessSplice::Present {
+        return Some(SeamlessSplice {
             splice_type: b0 / 16,
             dts_next_au: dts_of(b0, b1, b2, b3, b4),
-        };
+        });
     }
-    MaybeSeamlessSplice::Absent
+    None
 }
 
 // Where the fields behind the flags f stand: each begins where the one before it ends.
@@ -362,7 +328,7 @@ fn places_of(raw: &[u8], f: u8) -> Places
 }
 
 // Whether the fields of an extension end within it: its flags stand at `at + 1`, and it ends at `end`.
-fn extension_fields_room(raw: &[u8], at: usize, end: usize) -> Room
+fn extension_fields_room(raw: &[u8], at: usize, end: usize) -> Result<(), Truncated>
     requires extended { Extended raw.now at }
     requires nonzero { (0 < get_or raw.now at 0) × (end ≡ at + 1 + get_or raw.now at 0) }
     ensures { result ≡ extension_fields_room raw.now }
@@ -370,102 +336,102 @@ fn extension_fields_room(raw: &[u8], at: usize, end: usize) -> Room
     let f = byte_or_zero(raw, at + 1);
     let ltw = at + 2;
     if lacks(f / 128 % 2 == 1, end, ltw, 2) {
-        return Room::Truncated {
+        return Err(Truncated {
             have: beyond(end, ltw),
             need: 2,
-        };
+        });
     }
     let rate = past(f / 128 % 2 == 1, ltw, 2);
     if lacks(f / 64 % 2 == 1, end, rate, 3) {
-        return Room::Truncated {
+        return Err(Truncated {
             have: beyond(end, rate),
             need: 3,
-        };
+        });
     }
     let splice = past(f / 64 % 2 == 1, rate, 3);
     if lacks(f / 32 % 2 == 1, end, splice, 5) {
-        return Room::Truncated {
+        return Err(Truncated {
             have: beyond(end, splice),
             need: 5,
-        };
+        });
     }
-    Room::Enough
+    Ok(())
 }
 
-fn extension_room(raw: &[u8], at: usize) -> Room
+fn extension_room(raw: &[u8], at: usize) -> Result<(), Truncated>
     requires { Extended raw.now at }
     ensures { result ≡ extension_room raw.now }
 {
     if raw.len() < at + 1 {
-        return Room::Truncated {
+        return Err(Truncated {
             have: beyond(raw.len(), at),
             need: 1,
-        };
+        });
     }
     let n = length_at(raw, at);
     if raw.len() < at + 1 + n {
-        return Room::Truncated {
+        return Err(Truncated {
             have: beyond(raw.len(), at + 1),
             need: n,
-        };
+        });
     }
     if n == 0 {
-        return Room::Enough;
+        return Ok(());
     }
     extension_fields_room(raw, at, at + 1 + n)
 }
 
 // Whether the private data and the extension end within the field.
-fn data_room(raw: &[u8], f: u8, p: Places) -> Room
+fn data_room(raw: &[u8], f: u8, p: Places) -> Result<(), Truncated>
     requires flagged { Flagged raw.now f }
     requires placed { Placed raw.now p }
     ensures { result ≡ data_room raw.now }
 {
     let at = p.private_length;
     if lacks(f / 2 % 2 == 1, raw.len(), at, 1) {
-        return Room::Truncated {
+        return Err(Truncated {
             have: beyond(raw.len(), at),
             need: 1,
-        };
+        });
     }
     let n = length_at(raw, at);
     if lacks(f / 2 % 2 == 1, raw.len(), at + 1, n) {
-        return Room::Truncated {
+        return Err(Truncated {
             have: beyond(raw.len(), at + 1),
             need: n,
-        };
+        });
     }
     if f % 2 == 1 {
         return extension_room(raw, p.extension);
     }
-    Room::Enough
+    Ok(())
 }
 
 // Whether every field behind the flags f ends within the adaptation field.
-fn field_room(raw: &[u8], f: u8, p: Places) -> Room
+fn field_room(raw: &[u8], f: u8, p: Places) -> Result<(), Truncated>
     requires flagged { Flagged raw.now f }
     requires placed { Placed raw.now p }
     ensures { result ≡ room_of raw.now }
 {
     if lacks(f / 16 % 2 == 1, raw.len(), 2, 6) {
-        return Room::Truncated {
+        return Err(Truncated {
             have: beyond(raw.len(), 2),
             need: 6,
-        };
+        });
     }
     let opcr = p.opcr;
     if lacks(f / 8 % 2 == 1, raw.len(), opcr, 6) {
-        return Room::Truncated {
+        return Err(Truncated {
             have: beyond(raw.len(), opcr),
             need: 6,
-        };
+        });
     }
     let splice = p.splice_countdown;
     if lacks(f / 4 % 2 == 1, raw.len(), splice, 1) {
-        return Room::Truncated {
+        return Err(Truncated {
             have: beyond(raw.len(), splice),
             need: 1,
-        };
+        });
     }
     data_room(raw, f, p)
 }
@@ -479,9 +445,9 @@ fn extension_at(raw: &[u8], at: usize) -> AdaptationFieldExtension
     if length == 0 {
         return AdaptationFieldExtension {
             length: 0,
-            ltw: MaybeLtw::Absent,
-            piecewise_rate: MaybePiecewiseRate::Absent,
-            seamless_splice: MaybeSeamlessSplice::Absent,
+            ltw: None,
+            piecewise_rate: None,
+            seamless_splice: None,
         };
     }
     let f = byte_or_zero(raw, at + 1);
@@ -496,15 +462,15 @@ fn extension_at(raw: &[u8], at: usize) -> AdaptationFieldExtension
     }
 }
 
-fn extension_field(raw: &[u8], at: usize, on: bool) -> MaybeExtension
+fn extension_field(raw: &[u8], at: usize, on: bool) -> Option<AdaptationFieldExtension>
     requires on_value { on ≡ is_set raw.now "adaptation_field_extension_flag" }
     requires extended { on ≡ true → Extended raw.now at }
-    ensures { result ≡ cond (is_set raw.now "adaptation_field_extension_flag") (MaybeExtension.Present (extension_of raw.now)) MaybeExtension.Absent }
+    ensures { result ≡ cond (is_set raw.now "adaptation_field_extension_flag") (Some (extension_of raw.now)) None }
 {
     if on {
-        return MaybeExtension::Present(extension_at(raw, at));
+        return Some(extension_at(raw, at));
     }
-    MaybeExtension::Absent
+    None
 }
 
 // The adaptation field with the flags f.
@@ -529,21 +495,21 @@ fn flagged_field(raw: &[u8], f: u8, p: Places) -> AdaptationField
 // Whether the adaptation field that is the whole of `raw`, its length byte first, holds every part that it flags.
 // Most fields have no part but a PCR, which is seen first.
 // Ruled out: room for a PCR in a field of length 1; no room in a field of length 0.
-pub fn adaptation_field_room(raw: &[u8]) -> Room
+pub fn adaptation_field_room(raw: &[u8]) -> Result<(), Truncated>
     ensures { result ≡ field_room raw.now }
 {
     if byte_or_zero(raw, 0) == 0 {
-        return Room::Enough;
+        return Ok(());
     }
     if raw.len() < 2 {
-        return Room::Truncated {
+        return Err(Truncated {
             have: raw.len(),
             need: 2,
-        };
+        });
     }
     let f = raw[1];
     if (f % 16 == 0) & (8 <= raw.len()) {
-        return Room::Enough;
+        return Ok(());
     }
     let p = places_of(raw, f);
     field_room(raw, f, p)
@@ -559,11 +525,11 @@ fn adaptation_field_of(raw: &[u8]) -> AdaptationField
             discontinuity_indicator: false,
             random_access_indicator: false,
             elementary_stream_priority_indicator: false,
-            pcr: MaybeClockReference::Absent,
-            opcr: MaybeClockReference::Absent,
-            splice_countdown: MaybeSpliceCountdown::Absent,
-            transport_private_data: MaybePrivateData::Absent,
-            adaptation_field_extension: MaybeExtension::Absent,
+            pcr: None,
+            opcr: None,
+            splice_countdown: None,
+            transport_private_data: None,
+            adaptation_field_extension: None,
         };
     }
     let f = byte_or_zero(raw, 1);
@@ -572,28 +538,29 @@ fn adaptation_field_of(raw: &[u8]) -> AdaptationField
 }
 
 // The adaptation field that is the whole of `raw`, its length byte first.
-fn parse_adaptation_field(raw: &[u8]) -> AdaptationFieldParse
+fn parse_adaptation_field(raw: &[u8]) -> Result<AdaptationField, Truncated>
     ensures { result ≡ field_of raw.now }
 {
-    match adaptation_field_room(raw) {
-        Room::Truncated { have, need } => AdaptationFieldParse::Truncated { have, need },
-        Room::Enough => AdaptationFieldParse::Field(adaptation_field_of(raw)),
-    }
+    adaptation_field_room(raw)?;
+    Ok(adaptation_field_of(raw))
 }
 
-fn payload_from(b3: u8, from: usize) -> usize
+// Where the payload begins, by byte 3 and the end of header and adaptation field.
+// Ruled out: payload start 4 in a packet that has no payload; byte 188 in one that has.
+pub fn payload_start_of(b3: u8, from: usize) -> usize
     ensures { result ≡ cond (eqb (b3 / 16 % 2) 1) from 188 }
 {
     if b3 / 16 % 2 == 1 { from } else { 188 }
 }
 
-fn pid_of(b1: u8, b2: u8) -> u16
+// The PID, by bytes 1 and 2. Ruled out: a PID with a bit of the flags before it; its two bytes the other way round.
+pub fn pid_of(b1: u8, b2: u8) -> u16
     ensures { result ≡ b1 % 32 * 256 + b2 }
 {
     wide16(b1 % 32) * 256 + wide16(b2)
 }
 
-fn with_header(bytes: &[u8], f: MaybeAdaptationField, from: usize) -> TsPacket
+fn with_header(bytes: &[u8], f: Option<AdaptationField>, from: usize) -> TsPacket
     requires { (188 ≤ length bytes.now) × (from ≤ 188) }
     ensures { result ≡ packet_of bytes.now f from }
 {
@@ -608,43 +575,38 @@ fn with_header(bytes: &[u8], f: MaybeAdaptationField, from: usize) -> TsPacket
         transport_scrambling_control: b3 / 64,
         continuity_counter: b3 % 16,
         adaptation_field: f,
-        payload_start: payload_from(b3, from),
+        payload_start: payload_start_of(b3, from),
     }
 }
 
 impl TsPacket {
-    // Rules out a PID with a bit of the flags before it, and a packet whose adaptation field ends behind byte 188.
-    pub fn parse(bytes: &[u8]) -> Parse
+    // Ruled out: a PID with a bit of the flags before it; a packet whose adaptation field ends behind byte 188.
+    pub fn parse(bytes: &[u8]) -> Result<TsPacket, TsError>
         ensures { result ≡ parse_of bytes.now }
     {
         if bytes.len() < 188 {
-            return Parse::Truncated {
+            return Err(TsError::Truncated(Truncated {
                 have: bytes.len(),
                 need: 188,
-            };
+            }));
         }
         let sync = bytes[0];
         if sync != 0x47 {
-            return Parse::BadSyncByte(sync);
+            return Err(TsError::BadSyncByte(sync));
         }
         if bytes[3] / 32 % 2 == 1 {
             let total = wide_size(bytes[4]) + 1;
             let end = 4 + total;
             if 188 < end {
-                return Parse::Truncated {
+                return Err(TsError::Truncated(Truncated {
                     have: 184,
                     need: total,
-                };
+                }));
             }
-            match parse_adaptation_field(&bytes[4..end]) {
-                AdaptationFieldParse::Truncated { have, need } => Parse::Truncated { have, need },
-                AdaptationFieldParse::Field(f) => {
-                    Parse::Packet(with_header(bytes, MaybeAdaptationField::Present(f), end))
-                }
-            }
-        } else {
-            Parse::Packet(with_header(bytes, MaybeAdaptationField::Absent, 4))
+            let f = parse_adaptation_field(&bytes[4..end])?;
+            return Ok(with_header(bytes, Some(f), end));
         }
+        Ok(with_header(bytes, None, 4))
     }
 }
 
@@ -663,14 +625,16 @@ fn part(bytes: &[u8], from: usize, n: usize) -> &[u8]
     &bytes[from..end]
 }
 
-// The payload of a packet, from `payload_start` on; none from 188 on. Rules out bytes of the adaptation field, and a part that ends before the packet.
+// The payload of a packet, from `payload_start` on; none from 188 on.
+// Ruled out: bytes of the adaptation field; a part that ends before the packet.
 pub fn payload(bytes: &[u8], start: usize) -> &[u8]
     ensures { result.now ≡ payload_of bytes.now start }
 {
     part(bytes, start, beyond(188, start))
 }
 
-// The private data of a packet, by the start and the length that its adaptation field has. Rules out the byte of the length, and bytes behind them.
+// The private data of a packet, by the start and the length that its adaptation field has.
+// Ruled out: the byte of the length; bytes behind them.
 pub fn private_data(bytes: &[u8], start: usize, len: usize) -> &[u8]
     ensures { result.now ≡ private_data_of bytes.now start len }
 {
@@ -704,12 +668,6 @@ impl TsPacketLayout {
     };
 }
 
-#[derive(Clone, Copy)]
-pub enum Detected {
-    Found(TsPacketLayout),
-    Nothing,
-}
-
 // At least two whole packets, and the sync byte in each of the first eight.
 fn on_grid(buf: &[u8], size: usize, off: usize) -> bool
     requires { (off < size) × (size ≤ 204) }
@@ -732,23 +690,25 @@ fn on_grid(buf: &[u8], size: usize, off: usize) -> bool
     true
 }
 
-// Rules out a layout on one whole packet, and one whose second packet has no sync byte.
-pub fn detect_packet_layout(buf: &[u8]) -> Detected
+// The layout of a recording by its first packets.
+// Ruled out: a layout on one whole packet; one whose second packet has no sync byte.
+pub fn detect_packet_layout(buf: &[u8]) -> Option<TsPacketLayout>
     ensures { result ≡ layout_of buf.now }
 {
     if on_grid(buf, 188, 0) {
-        return Detected::Found(TsPacketLayout::STANDARD);
+        return Some(TsPacketLayout::STANDARD);
     }
     if on_grid(buf, 192, 4) {
-        return Detected::Found(TsPacketLayout::PREFIXED_192);
+        return Some(TsPacketLayout::PREFIXED_192);
     }
     if on_grid(buf, 204, 0) {
-        return Detected::Found(TsPacketLayout::TRAILER_204);
+        return Some(TsPacketLayout::TRAILER_204);
     }
-    Detected::Nothing
+    None
 }
 
-// The 188 bytes from a place on; none where the recording ends sooner. Rules out a shorter part at the recording's end, and one that begins elsewhere.
+// The 188 bytes from a place on; none where the recording ends sooner.
+// Ruled out: a shorter part at the recording's end; one that begins elsewhere.
 pub fn window_at(bytes: &[u8], from: usize) -> &[u8]
     ensures { result.now ≡ cond (leb (from + 188) (length bytes.now)) (take 188 (drop from bytes.now)) [] }
 {
@@ -763,7 +723,8 @@ pub fn window_at(bytes: &[u8], from: usize) -> &[u8]
     &bytes[from..end]
 }
 
-// The 188 bytes of packet k. Rules out a part that holds bytes of the prefix, and a shorter part at the recording's end.
+// The 188 bytes of packet k.
+// Ruled out: a part that holds bytes of the prefix; a shorter part at the recording's end.
 pub fn window(bytes: &[u8], layout: TsPacketLayout, k: usize) -> &[u8]
     ensures { result.now ≡ window_of bytes.now layout.packet_size layout.sync_offset k }
 {

@@ -2,8 +2,8 @@
 use mir.Val.{SFits}
 use mir.Syntax.{w8}
 use mir.Facts.{to_z-of_z}
-use Rattle.packet.specs.declared.MaybeSpliceCountdown.{MaybeSpliceCountdown}
 use Rattle.packet.specs.AdaptationField.{tcimsbf8}
+use Rattle.std.specs.Prelude.{Some}
 use mathlib.Core.Path.{sym, ap, ◌∙◌}
 use Rattle.syntax.proofs.Bits.{byte}
 use native.Mathlib.Omega.{arith}
@@ -14,4 +14,4 @@ returns-then-on c =
     let s = c.args.raw.now in
     let at = c.args.at in
     let f : SFits w8 c.signed.result = record { sfits = c.signed.type_inv } in
-    rw c.if-on.true (ap MaybeSpliceCountdown.Present (to_z-of_z f ∙ c.signed.ensures ∙ ap tcimsbf8 (c.byte_or_zero-b.ensures ∙ sym (byte s at (omega (arith, c.type_inv.raw at))))))
+    rw c.if-on.true (ap Some (to_z-of_z f ∙ c.signed.ensures ∙ ap tcimsbf8 (c.byte_or_zero-b.ensures ∙ sym (byte s at (omega (arith, c.type_inv.raw at))))))

@@ -7,4 +7,4 @@ pub returns : goal.returns
 returns c =
     let w = c.args.bytes.now in
     let h = of_slice w c.type_inv.bytes in
-    rw (packet_by w h c.args.f c.args.from, ← c.pid_of.ensures, ← c.payload_from.ensures)
+    rw (packet_by w h c.args.f c.args.from, ← c.pid_of.ensures, ← c.payload_start_of.ensures)

@@ -2,8 +2,9 @@
 use Rattle.packet.proofs.Slices.{of_slice}
 use Rattle.packet.proofs.Cases.{truncated}
 use Rattle.packet.proofs.Header.{parse_sync, parse_bare, parse_over, parse_field}
-use Rattle.packet.specs.declared.Parse.{Parse}
 use Rattle.packet.specs.Packet.{with_field}
+use Rattle.std.specs.Prelude.{Ok}
+use Rattle.std.proofs.lemmas.Result.{err_from_is_err_and}
 use mathlib.Core.Path.{sym, ap, ◌∙◌}
 use native.Mathlib.Omega.{arith}
 use Rattle.packet.proofs.TsPacket.parse.Goals as goal
@@ -29,24 +30,25 @@ returns-then-end-gt188 c =
     let h = of_slice w c.type_inv.bytes in
     sym (parse_over w h c.if-bytes-lt188.false c.if-sync-ne71.false c.if-bytes-eq1.true c.wide_size-total.result c.wide_size-total.ensures c.if-end-gt188.true)
 
-pub returns-in-Truncated : goal.returns-in-Truncated
+pub returns-in_err-f : goal.returns-in_err-f
 unfolding with_field
-returns-in-Truncated c =
+returns-in_err-f c =
     let w = c.args.bytes.now in
     let h = of_slice w c.type_inv.bytes in
     let p = parse_field w h c.if-bytes-lt188.false c.if-sync-ne71.false c.if-bytes-eq1.true c.wide_size-total.result c.wide_size-total.ensures c.if-end-gt188.false _ c.parse_adaptation_field.ensures in
-    sym (rw c.in-Truncated.is at p)
+    let e = err_from_is_err_and c.from_residual.result c.from_residual.ensures.1 in
+    rw (e.1, e.2) (sym (rw c.in_err-f.was at p))
 
-pub returns-in-Field : goal.returns-in-Field
+pub returns-then-bytes-eq1 : goal.returns-then-bytes-eq1
 unfolding with_field
-returns-in-Field c =
+returns-then-bytes-eq1 c =
     let w = c.args.bytes.now in
     let h = of_slice w c.type_inv.bytes in
     let p = parse_field w h c.if-bytes-lt188.false c.if-sync-ne71.false c.if-bytes-eq1.true c.wide_size-total.result c.wide_size-total.ensures c.if-end-gt188.false _ c.parse_adaptation_field.ensures in
-    ap Parse.Packet c.with_header.ensures ∙ sym (rw c.in-Field.is at p)
+    ap Ok c.with_header.ensures ∙ sym (rw c.in_ok-f.was at p)
 
-pub returns-else-bytes-eq1 : goal.returns-else-bytes-eq1
-returns-else-bytes-eq1 c =
+pub returns : goal.returns
+returns c =
     let w = c.args.bytes.now in
     let h = of_slice w c.type_inv.bytes in
-    ap Parse.Packet c.with_header-else-bytes-eq1.ensures ∙ sym (parse_bare w h c.if-bytes-lt188.false c.if-sync-ne71.false c.if-bytes-eq1.false)
+    ap Ok c.with_header-2.ensures ∙ sym (parse_bare w h c.if-bytes-lt188.false c.if-sync-ne71.false c.if-bytes-eq1.false)
