@@ -1,31 +1,20 @@
--- The loop that copies a figure of each element into an array of as many slots.
+-- A figure of each element of an array, and the length of an array that is a field.
 -- Assumes nothing.
-use Prim.Native.Nat.{ℕ, zero, suc, ◌+◌, ◌≤◌, ◌<◌}
+use Prim.Native.Nat.{ℕ, zero, suc, ◌<◌}
 use mathlib.Core.Path.{◌≡◌, refl, sym, ap, ◌∙◌}
-use mathlib.Core.List.{List, [], ◌∷◌, map, map-append}
+use mathlib.Core.List.{List, [], ◌∷◌, map}
 use native.Mathlib.Omega.{arith}
-use native.Mathlib.Numerals.{add-one}
-use lib.ListN.{length, take, get_or, set, length-set, length-map}
-use lib.Seq.{take-suc, take-suc-set, take_all}
+use lib.ListN.{length, take, get_or, length-map}
 
--- the first i slots of copy hold what f gives of the first i elements
-pub record Copied {A : Type 0} (f : A → ℕ) (l : List A) (copy : List ℕ) (i : ℕ) : Type 0 where
-  pub size : length copy ≡ length l
-  pub done : take i copy ≡ map f (take i l)
-
-module _ {A : Type 0} (f : A → ℕ) (l : List A) (copy : List ℕ) where
-  pub copied_next : (d : A) (i : ℕ) → i < length l → Copied f l copy i → Copied f l (set copy i (f (get_or l i d))) (i + 1)
-  copied_next d i h c =
-      record {
-        size = length-set copy i (f (get_or l i d)) ∙ c.size;
-        done =
-            rw (add-one)
-            (take-suc-set copy i (f (get_or l i d)) (omega (arith, c.size))
-            ∙ rw (c.done, take-suc l i d h, map-append f (take i l) (get_or l i d ∷ [])));
-      }
-
-  pub copied_all : (i : ℕ) → length l ≤ i → Copied f l copy i → copy ≡ map f l
-  copied_all i h c = sym (take_all i copy (omega (arith, c.size))) ∙ c.done ∙ ap (map f) (take_all i l h)
+-- a list with what f gives of each element
+pub map_by_index : {A : Type 0} (f : A → ℕ) (d : A) (l : List A) (copy : List ℕ) → length copy ≡ length l → ((i : ℕ) → i < length l → get_or copy i 0 ≡ f (get_or l i d)) → copy ≡ map f l
+map_by_index f d [] [] e at = refl
+map_by_index f d [] (b ∷ copy) e at = absurd (omega arith)
+map_by_index f d (a ∷ l) [] e at = absurd (omega arith)
+map_by_index f d (a ∷ l) (b ∷ copy) e at =
+    let front : b ≡ f a = at 0 (omega arith) in
+    let rest : copy ≡ map f l = map_by_index f d l copy (omega arith) (λ i h. at (suc i) (omega arith)) in
+    cc
 
 pub take_map : {A : Type 0} (f : A → ℕ) (n : ℕ) (l : List A) → take n (map f l) ≡ map f (take n l)
 take_map f zero l = refl

@@ -1,14 +1,15 @@
 -- A test of every element of a list: at each element, in a loop from the front, and of a list that is cut at its length.
 -- Assumes nothing.
 use Prim.Native.Nat.{ℕ, zero, suc, ◌+◌, ◌≤◌, ◌<◌, min}
-use mathlib.Core.Path.{◌≡◌, refl, ◌∙◌}
-use mathlib.Core.Bool.{Bool, true, false}
+use mathlib.Core.Path.{◌≡◌, refl, ap, ◌∙◌}
+use mathlib.Core.Bool.{Bool, true, false, ◌&&◌}
 use mathlib.Core.List.{List, [], ◌∷◌}
 use native.Mathlib.Nat.{min-le_left}
 use native.Mathlib.Omega.{arith}
 use native.Mathlib.Numerals.{add-one}
 use lib.ListN.{length, take, drop, get_or, drop_of_length-le, length-take}
 use lib.Seq.{drop-cons, get_or-take}
+use Rattle.std.specs.List.{list_all}
 use Rattle.profile.specs.Every.{every}
 use Rattle.profile.proofs.Ranges.{and_left, and_right, and_both}
 
@@ -55,3 +56,8 @@ module _ {A : Type 0} (test : A → Bool) (d : A) where
   unfolding every
   at_every [] at = refl
   at_every (a ∷ l) at = and_both (test a) (every test l) (at 0 (omega arith)) (at_every l (λ i h. at (suc i) (omega arith)))
+
+pub every_list_all : {A : Type 0} (test : A → Bool) (l : List A) → list_all test l ≡ every test l
+unfolding every
+every_list_all test [] = refl
+every_list_all test (a ∷ l) = ap (λ (t : Bool). test a && t) (every_list_all test l)

@@ -1,50 +1,18 @@
--- The search for the first entry of a list that is a given PID: the loop over the first n entries, and what is found.
+-- The search for the first entry of a list that is a given PID: what is found, and std's search.
 -- Assumes nothing.
-use Prim.Native.Nat.{ℕ, zero, suc, ◌+◌, ◌≤◌, ◌<◌, min}
-use mathlib.Core.Path.{◌≡◌, refl, sym, ap, ◌∙◌}
-use mathlib.Core.Bool.{Bool, true, false, cond, ◌||◌, false≢true}
+use Prim.Native.Nat.{ℕ, zero, suc, ◌+◌, ◌<◌}
+use mathlib.Core.Path.{◌≡◌, refl, sym, ◌∙◌}
+use mathlib.Core.Bool.{Bool, true, false, cond, not, ◌||◌, false≢true}
 use mathlib.Core.List.Memᴰ
 use mathlib.Core.List.{List, [], ◌∷◌, Memᴰ}
-use native.Mathlib.Nat.{zero-min, min-zero, suc-min-suc}
 use mathlib.Core.Logic.{◌⊎◌, inl, inr}
 use native.Mathlib.Omega.{arith}
-use native.Mathlib.Numerals.{add-one}
-use borrow.Author.Tests.{eq-eqb, ne_eqb, lt-ltb, le-ltb, eqb-true, eqb-false}
+use borrow.Author.Tests.{eq-eqb, lt-ltb, eqb-true, eqb-false}
 use lib.Dec.{eqb, ltb, leb-suc-suc}
-use lib.ListN.{length, take, drop, get_or, drop_of_length-le, length-take}
-use lib.Seq.{drop-cons, get_or-take, length-take-le, take_all}
-use Rattle.profile.specs.Owner.{contains, first_index}
-
--- none of the first i of the n entries is the PID
-pub record Skipped (l : List ℕ) (n pid i : ℕ) : Type 0 where
-  pub reached : i ≤ n
-  pub size : length (take n l) ≡ n
-  pub rest : first_index (take n l) pid ≡ i + first_index (drop i (take n l)) pid
-
-module _ (l : List ℕ) (n pid : ℕ) where
-  pub skipped_none : n ≤ length l → Skipped l n pid 0
-  skipped_none h = record { reached = omega arith; size = length-take-le n l h; rest = omega arith }
-
-  module _ (i : ℕ) (s : Skipped l n pid i) (h : i < n) where
-    entry : drop i (take n l) ≡ get_or l i 0 ∷ drop (suc i) (take n l)
-    entry =
-        let inside : i < length (take n l) = omega (arith, s.size) in
-        drop-cons (take n l) i 0 inside ∙ rw (get_or-take n l i 0 h)
-
-    pub skipped_found : get_or l i 0 ≡ pid → i ≡ first_index (take n l) pid
-    unfolding first_index
-    skipped_found e = sym (s.rest ∙ rw (entry, eq-eqb (get_or l i 0) pid e) (omega arith))
-
-    pub skipped_next : (get_or l i 0 ≡ pid → ⊥) → Skipped l n pid (i + 1)
-    unfolding first_index
-    skipped_next e =
-        record { reached = omega arith; size = s.size; rest = s.rest ∙ rw (entry, ne_eqb (get_or l i 0) pid e, add-one) (omega arith) }
-
-  pub skipped_all : (i : ℕ) → Skipped l n pid i → n ≤ i → i ≡ first_index (take n l) pid
-  unfolding first_index
-  skipped_all i s h =
-      let none : length (take n l) ≤ i = omega (arith, s.size) in
-      sym (s.rest ∙ rw (drop_of_length-le (take n l) none) (omega arith))
+use lib.ListN.{length, get_or}
+use Rattle.std.specs.Prelude.{Option, Some, None}
+use Rattle.std.specs.List.{position_or_len}
+use Rattle.profile.specs.Owner.{contains, first_index, index_of}
 
 -- an entry is the PID exactly if the search ends before the length
 pub contains_index : (l : List ℕ) (pid : ℕ) → contains l pid ≡ ltb (first_index l pid) (length l)
@@ -99,55 +67,32 @@ module _ (pid : ℕ) where
       by_place (inl e) ih = rw (eq-eqb p pid (sym e))
       by_place (inr m) ih = rw (ih m) (or_true (eqb p pid))
 
-take_min : {A : Type 0} (n : ℕ) (l : List A) → take (min n (length l)) l ≡ take n l
-take_min zero l = rw zero-min
-take_min (suc n) [] = rw min-zero
-take_min {A} (suc n) (a ∷ l) = rw suc-min-suc (ap (λ (r : List A). a ∷ r) (take_min n l))
+-- where there is one, and where none
+module _ (pid : ℕ) (l : List ℕ) {r : Option ℕ} (e : r ≡ index_of l pid) where
+  pub index_some : {i : ℕ} → r ≡ Some i → (contains l pid ≡ true) × (i ≡ first_index l pid)
+  index_some {i} f = by_test (contains l pid) refl (sym e ∙ f)
+    where
+      by_test : (t : Bool) → contains l pid ≡ t → cond t (Some (first_index l pid)) None ≡ Some i → (contains l pid ≡ true) × (i ≡ first_index l pid)
+      by_test true c g = (c, cc)
+      by_test false c g = cc
 
--- the entries in use of l, where l has as many slots as are given
-module _ (l : List ℕ) (n pid slots end i : ℕ) (whole : length l ≡ slots) (used : end ≡ min n slots) (at : i ≡ first_index (take end l) pid) where
-  same : take end l ≡ take n l
-  same = rw (used, ← whole) (take_min n l)
+  pub index_none : r ≡ None → contains l pid ≡ false
+  index_none f = by_test (contains l pid) refl (sym e ∙ f)
+    where
+      by_test : (t : Bool) → contains l pid ≡ t → cond t (Some (first_index l pid)) None ≡ None → contains l pid ≡ false
+      by_test true c g = cc
+      by_test false c g = c
 
-  size : length (take n l) ≡ end
-  size = length-take n l ∙ rw (whole, used)
+module _ (pid : ℕ) where
+  -- the same index as std's search gives
+  pub position_index : (l : List ℕ) → position_or_len (λ p. eqb p pid) l ≡ first_index l pid
+  unfolding first_index
+  position_index [] = refl
+  position_index (p ∷ l) = by_test (eqb p pid) (position_index l)
+    where
+      by_test : (t : Bool) → position_or_len (λ p. eqb p pid) l ≡ first_index l pid → cond (not t) (1 + position_or_len (λ p. eqb p pid) l) 0 ≡ cond t 0 (suc (first_index l pid))
+      by_test true ih = refl
+      by_test false ih = omega (arith, ih)
 
-  pub present : i < end → contains (take n l) pid ≡ true
-  present h = contains_index (take n l) pid ∙ rw (size, ← same, ← at) (lt-ltb i end h)
-
-  pub absent : end ≤ i → contains (take n l) pid ≡ false
-  absent h = contains_index (take n l) pid ∙ rw (size, ← same, ← at) (le-ltb i end h)
-
--- the search of the first n entries, by that of all
-pub index_of_take : (l : List ℕ) (n pid : ℕ) → first_index (take n l) pid ≡ min n (first_index l pid)
-unfolding first_index
-index_of_take l zero pid = rw zero-min
-index_of_take [] (suc n) pid = rw min-zero
-index_of_take (p ∷ l) (suc n) pid = by_test (eqb p pid) (index_of_take l n pid)
-  where
-    by_test : (t : Bool) → first_index (take n l) pid ≡ min n (first_index l pid) → cond t 0 (suc (first_index (take n l) pid)) ≡ min (suc n) (cond t 0 (suc (first_index l pid)))
-    by_test true ih = rw min-zero
-    by_test false ih = rw (suc-min-suc, ih)
-
--- the entries in use of l, where all of its slots are searched
-module _ (l : List ℕ) (n pid slots end i : ℕ) (whole : length l ≡ slots) (used : end ≡ min n slots) (at : i ≡ first_index (take slots l) pid) where
-  in_all : i ≡ first_index l pid
-  in_all = at ∙ ap (λ (z : List ℕ). first_index z pid) (take_all slots l (omega arith))
-
-  in_use : first_index (take n l) pid ≡ min n i
-  in_use = index_of_take l n pid ∙ ap (min n) (sym in_all)
-
-  use_size : length (take n l) ≡ end
-  use_size = length-take n l ∙ rw (whole, used)
-
-  pub found_index : i < end → first_index (take n l) pid ≡ i
-  found_index h = in_use ∙ (let e : min n i ≡ i = omega arith in e)
-
-  pub found_in_use : i < end → contains (take n l) pid ≡ true
-  found_in_use h = contains_index (take n l) pid ∙ rw (use_size, found_index h) (lt-ltb i end h)
-
-  pub none_in_use : end ≤ i → contains (take n l) pid ≡ false
-  none_in_use h =
-      contains_index (take n l) pid
-      ∙ rw (use_size, in_use)
-      (le-ltb (min n i) end (omega arith))
+  pub position_is : (l : List ℕ) → cond (ltb (position_or_len (λ p. eqb p pid) l) (length l)) (Some (position_or_len (λ p. eqb p pid) l)) None ≡ index_of l pid
+  position_is l = rw (position_index l, contains_index l pid)

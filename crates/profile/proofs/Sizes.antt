@@ -7,11 +7,11 @@ use native.Mathlib.Nat.{mul_comm, mul_assoc, mul-le-mul, le_trans, le-div_iff_mu
 use native.Mathlib.Omega.{arith}
 use borrow.Author.Tests.{leb-true, leb-false, le-leb, lt-leb}
 use lib.Dec.{leb, eqb}
+use Rattle.std.specs.Prelude.{Ok, Err}
 use Rattle.error.specs.declared.Refusal.{Refusal}
 use Rattle.profile.specs.declared.config.TStdConfig.{TStdConfig}
 use Rattle.profile.specs.declared.limits.Limits.{Limits}
 use Rattle.profile.specs.declared.work.WorkSize.{WorkSize}
-use Rattle.profile.specs.declared.work.Checked.{Checked}
 use Rattle.profile.specs.Limits.{within_limits}
 use Rattle.profile.specs.Work.{times_needed, needed_of, covers, check_of}
 use Rattle.profile.proofs.Ranges.{and_left, and_right, and_both}
@@ -97,27 +97,24 @@ module _ (lent needed : WorkSize) where
       by_test false e = refl
 
 module _ (limits : Limits) (c : TStdConfig) (lent : WorkSize) (recording : ℕ) where
-  pub check_outside : within_limits limits c ≡ false → check_of limits c lent recording ≡ Checked.Refused Refusal.OutsideLimits
+  pub check_outside : within_limits limits c ≡ false → check_of limits c lent recording ≡ Err Refusal.OutsideLimits
   unfolding check_of
   check_outside e = rw e
 
   module _ (within : within_limits limits c ≡ true) where
-    pub check_short : covers lent (needed_of c) ≡ false → check_of limits c lent recording ≡ Checked.Refused Refusal.WorkTooShort
+    pub check_short : covers lent (needed_of c) ≡ false → check_of limits c lent recording ≡ Err Refusal.WorkTooShort
     unfolding check_of
     check_short e = rw (within, e)
 
-    pub check_long : Covered lent (needed_of c) → limits.longest_recording < recording → check_of limits c lent recording ≡ Checked.Refused Refusal.RecordingTooLong
+    pub check_long : Covered lent (needed_of c) → limits.longest_recording < recording → check_of limits c lent recording ≡ Err Refusal.RecordingTooLong
     unfolding check_of
     check_long h k =
         rw (within, covered_covers lent (needed_of c) h, lt-leb recording limits.longest_recording k)
 
-    pub check_fits : Covered lent (needed_of c) → recording ≤ limits.longest_recording → check_of limits c lent recording ≡ Checked.Fits (needed_of c)
+    pub check_fits : Covered lent (needed_of c) → recording ≤ limits.longest_recording → check_of limits c lent recording ≡ Ok (needed_of c)
     unfolding check_of
     check_fits h k =
         rw (within, covered_covers lent (needed_of c) h, le-leb recording limits.longest_recording k)
-
-never : (r : Refusal) (size : WorkSize) → Checked.Refused r ≡ Checked.Fits size → ⊥
-never r size e = let z : ◌≡◌ {A = ℕ} 0 1 = cc in omega arith
 
 -- what is known where the check is passed
 pub record Passes (limits : Limits) (c : TStdConfig) (lent : WorkSize) (recording : ℕ) (size : WorkSize) : Type 0 where
@@ -127,19 +124,19 @@ pub record Passes (limits : Limits) (c : TStdConfig) (lent : WorkSize) (recordin
   pub length : recording ≤ limits.longest_recording
 
 module _ (limits : Limits) (c : TStdConfig) (lent : WorkSize) (recording : ℕ) (size : WorkSize) where
-  by_tests : (a b d : Bool) → within_limits limits c ≡ a → covers lent (needed_of c) ≡ b → leb recording limits.longest_recording ≡ d → cond a (cond b (cond d (Checked.Fits (needed_of c)) (Checked.Refused Refusal.RecordingTooLong)) (Checked.Refused Refusal.WorkTooShort)) (Checked.Refused Refusal.OutsideLimits) ≡ Checked.Fits size → Passes limits c lent recording size
+  by_tests : (a b d : Bool) → within_limits limits c ≡ a → covers lent (needed_of c) ≡ b → leb recording limits.longest_recording ≡ d → cond a (cond b (cond d (Ok (needed_of c)) (Err Refusal.RecordingTooLong)) (Err Refusal.WorkTooShort)) (Err Refusal.OutsideLimits) ≡ Ok size → Passes limits c lent recording size
   by_tests true true true p q r e =
       record { within = p; needed = cc; covered = covers_covered lent (needed_of c) q; length = leb-true recording limits.longest_recording r }
-  by_tests true true false p q r e = absurd (never _ size e)
-  by_tests true false d p q r e = absurd (never _ size e)
-  by_tests false b d p q r e = absurd (never _ size e)
+  by_tests true true false p q r e = cc
+  by_tests true false d p q r e = cc
+  by_tests false b d p q r e = cc
 
-  pub fits_passes : check_of limits c lent recording ≡ Checked.Fits size → Passes limits c lent recording size
+  pub fits_passes : check_of limits c lent recording ≡ Ok size → Passes limits c lent recording size
   unfolding check_of
   fits_passes e = by_tests _ _ _ refl refl refl e
 
 -- what fits small limits fits larger ones, and needs the same
-pub check_larger : {small large : Limits} → NoLarger small large → (c : TStdConfig) (lent : WorkSize) (recording : ℕ) (size : WorkSize) → check_of small c lent recording ≡ Checked.Fits size → check_of large c lent recording ≡ Checked.Fits size
+pub check_larger : {small large : Limits} → NoLarger small large → (c : TStdConfig) (lent : WorkSize) (recording : ℕ) (size : WorkSize) → check_of small c lent recording ≡ Ok size → check_of large c lent recording ≡ Ok size
 check_larger {small} {large} le c lent recording size e =
     let p = fits_passes small c lent recording size e in
-    check_fits large c lent recording (limits_larger le c p.within) p.covered (le_trans p.length le.recording) ∙ ap Checked.Fits (sym p.needed)
+    check_fits large c lent recording (limits_larger le c p.within) p.covered (le_trans p.length le.recording) ∙ ap Ok (sym p.needed)

@@ -1,7 +1,6 @@
 -- The figures of document 01 on stream models: the arguments of `video_high_level`, then Rxn, Rbxn and MBSn.
-use Rattle.std.specs.Prelude.{ℕ, ◌≡◌, List, [], ◌∷◌}
+use Rattle.std.specs.Prelude.{ℕ, ◌≡◌, List, [], ◌∷◌, Ok}
 use Rattle.profile.specs.declared.model.TStdBranch.TheVariants.{Video}
-use Rattle.profile.specs.declared.model.ModelAnswer.{ModelAnswer}
 use Rattle.profile.specs.Model.{video_high_level}
 
 pub record HighLevelRow : Type 0 where
@@ -21,5 +20,5 @@ high_level_rows =
 abbrev pub HighLevelHolds : List HighLevelRow → Type 0
 HighLevelHolds [] = Unit
 HighLevelHolds (r ∷ rows) =
-    (video_high_level r.rmax r.res r.vbv ≡ ModelAnswer.Model (record { rx_bps = r.rx; branch = Video r.rbx r.mb r.vbv }))
+    (video_high_level r.rmax r.res r.vbv ≡ Ok (record { rx_bps = r.rx; branch = Video r.rbx r.mb r.vbv }))
     × HighLevelHolds rows

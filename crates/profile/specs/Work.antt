@@ -1,10 +1,9 @@
 -- The work and chain row that a replay needs, and the refusals 1, 2 and 3 in that order (document 01).
-use Rattle.std.specs.Prelude.{ℕ, ◌+◌, ◌*◌, ◌^◌, ◌≤◌, ◌<◌, Bool, cond, ◌&&◌, leb, eqb}
+use Rattle.std.specs.Prelude.{ℕ, ◌+◌, ◌*◌, ◌^◌, ◌≤◌, ◌<◌, Bool, cond, ◌&&◌, leb, eqb, Result, Ok, Err}
 use Rattle.error.specs.declared.Refusal.{Refusal}
 use Rattle.profile.specs.declared.config.TStdConfig.{TStdConfig}
 use Rattle.profile.specs.declared.limits.Limits.{Limits}
 use Rattle.profile.specs.declared.work.WorkSize.{WorkSize}
-use Rattle.profile.specs.declared.work.Checked.{Checked}
 use Rattle.profile.specs.Range.{max_streams, max_clock_depth}
 use Rattle.profile.specs.Limits.{within_limits}
 
@@ -34,12 +33,12 @@ unfoldable pub covers : (lent needed : WorkSize) → Bool
 covers lent needed =
     leb needed.times lent.times && leb needed.places lent.places && leb needed.row lent.row
 
-unfoldable pub check_of : Limits → TStdConfig → (lent : WorkSize) → (recording : ℕ) → Checked
+unfoldable pub check_of : Limits → TStdConfig → (lent : WorkSize) → (recording : ℕ) → Result WorkSize Refusal
 check_of limits c lent recording =
     cond (within_limits limits c)
     (cond (covers lent (needed_of c))
     (cond (leb recording limits.longest_recording)
-    (Checked.Fits (needed_of c))
-    (Checked.Refused Refusal.RecordingTooLong))
-    (Checked.Refused Refusal.WorkTooShort))
-    (Checked.Refused Refusal.OutsideLimits)
+    (Ok (needed_of c))
+    (Err Refusal.RecordingTooLong))
+    (Err Refusal.WorkTooShort))
+    (Err Refusal.OutsideLimits)

@@ -29,9 +29,7 @@ pub struct TStdConfig {
 pub(crate) fn stream_ok(stream: TStdStream) -> bool
     ensures { result ≡ stream_ok stream }
 {
-    let model = stream.model;
-    let branch = model.branch;
-    pid_ok(stream.pid) & rate_ok(model.rx_bps) & branch_ok(branch)
+    pid_ok(stream.pid) & rate_ok(stream.model.rx_bps) & branch_ok(stream.model.branch)
 }
 
 impl TStdConfig {
@@ -62,47 +60,49 @@ impl TStdConfig {
     pub fn with_pcr_pid(self, v: u16) -> Self
         ensures { result ≡ with_pcr_pid self v }
     {
-        let mut next = self;
-        next.pcr_pid = v;
-        next
+        Self { pcr_pid: v, ..self }
     }
 
     // Ruled out: streams added behind those there were; the old count kept.
     pub fn with_streams(self, v: [TStdStream; MAX_STREAMS], count: usize) -> Self
         ensures { result ≡ with_streams self v count }
     {
-        let mut next = self;
-        next.streams = v;
-        next.stream_count = count;
-        next
+        Self {
+            streams: v,
+            stream_count: count,
+            ..self
+        }
     }
 
     // Ruled out: PID 0 added to the list; the old count kept.
     pub fn with_system_pids(self, v: [u16; MAX_SYSTEM_PIDS], count: usize) -> Self
         ensures { result ≡ with_system_pids self v count }
     {
-        let mut next = self;
-        next.system_pids = v;
-        next.system_count = count;
-        next
+        Self {
+            system_pids: v,
+            system_count: count,
+            ..self
+        }
     }
 
     // Ruled out: a depth cut to the limit; the clock's depth set too.
     pub fn with_queue_depth(self, v: usize) -> Self
         ensures { result ≡ with_queue_depth self v }
     {
-        let mut next = self;
-        next.queue_depth = v;
-        next
+        Self {
+            queue_depth: v,
+            ..self
+        }
     }
 
     // Ruled out: a depth cut to the limit; the queues' depth set too.
     pub fn with_clock_depth(self, v: usize) -> Self
         ensures { result ≡ with_clock_depth self v }
     {
-        let mut next = self;
-        next.clock_depth = v;
-        next
+        Self {
+            clock_depth: v,
+            ..self
+        }
     }
 
     // PAT, CAT and the program's PMT are the system PIDs (H.222.0 2.4.2.3).

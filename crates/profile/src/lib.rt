@@ -11,6 +11,6 @@ pub mod work;
 
 pub use config::{TStdConfig, TStdStream};
 pub use limits::{Limits, in_limits};
-pub use model::{ModelAnswer, TStdBranch, TStdStreamModel};
+pub use model::{TStdBranch, TStdStreamModel};
 pub use owner::{Owner, Pids};
-pub use work::{Checked, WorkSize, check};
+pub use work::{WorkSize, check};

@@ -1,5 +1,5 @@
 // The test for number 1: whether a configuration is within the limits of document 01.
-ghost use Rattle.std.specs.Prelude.{◌≡◌, min, take};
+ghost use Rattle.std.specs.Prelude.{◌≡◌, take};
 ghost use Rattle.profile.specs.Range.{pid_ok};
 ghost use Rattle.profile.specs.Config.{stream_ok};
 ghost use Rattle.profile.specs.Every.{every};
@@ -52,53 +52,27 @@ impl Limits {
     }
 }
 
-// How many of the slots are in use.
-pub(crate) fn used(count: usize, slots: usize) -> usize
-    ensures { result ≡ min count slots }
-{
-    if count <= slots { count } else { slots }
-}
-
 fn streams_ok(streams: [TStdStream; MAX_STREAMS], count: usize) -> bool
     ensures { result ≡ every stream_ok (take count streams) }
 {
-    let end = used(count, MAX_STREAMS);
-    let mut i = 0;
-    while i < end {
-        let stream = streams[i];
-        if !stream_ok(stream) {
-            return false;
-        }
-        i += 1;
-    }
-    true
+    streams.iter().take(count).all(|stream| stream_ok(*stream))
 }
 
 fn pids_ok(pids: [u16; MAX_SYSTEM_PIDS], count: usize) -> bool
     ensures { result ≡ every pid_ok (take count pids) }
 {
-    let end = used(count, MAX_SYSTEM_PIDS);
-    let mut i = 0;
-    while i < end {
-        if !pid_ok(pids[i]) {
-            return false;
-        }
-        i += 1;
-    }
-    true
+    pids.iter().take(count).all(|pid| pid_ok(*pid))
 }
 
 // Ruled out: refusing a repeated stream PID, or what a slot past a count holds; a figure one outside its limit taken.
 pub fn in_limits(config: TStdConfig, limits: Limits) -> bool
     ensures { result ≡ within_limits limits config }
 {
-    let streams = config.streams;
-    let pids = config.system_pids;
     pid_ok(config.pcr_pid)
         & (config.stream_count <= MAX_STREAMS)
         & (config.system_count <= MAX_SYSTEM_PIDS)
         & ((MIN_QUEUE_DEPTH <= config.queue_depth) & (config.queue_depth <= limits.deepest_queue))
         & ((MIN_CLOCK_DEPTH <= config.clock_depth) & (config.clock_depth <= MAX_CLOCK_DEPTH))
-        & streams_ok(streams, config.stream_count)
-        & pids_ok(pids, config.system_count)
+        & streams_ok(config.streams, config.stream_count)
+        & pids_ok(config.system_pids, config.system_count)
 }

@@ -1,7 +1,7 @@
 // The T-STD parameters of one elementary stream (H.222.0 2.4.2.3) and the Rust's constructors of them. A rate or size
 // argument outside its limit is refused with number 1; a result outside the limits is left to the replay.
-ghost use Rattle.std.specs.Prelude.{◌≡◌, ◌-◌, ◌≤◌, min};
-ghost use Rattle.profile.specs.Model.{branch_ok, model_if, new_model, with_rx_bps, with_branch, audio_model, mux_and_overhead, video_model, video_low_main_level, video_high_level};
+ghost use Rattle.std.specs.Prelude.{◌≡◌, ◌≤◌};
+ghost use Rattle.profile.specs.Model.{branch_ok, new_model, with_rx_bps, with_branch, audio_model, mux_and_overhead, video_model, video_low_main_level, video_high_level};
 
 use crate::range::{rate_ok, size_ok};
 use error::Refusal;
@@ -32,12 +32,6 @@ pub struct TStdStreamModel {
     pub branch: TStdBranch,
 }
 
-#[derive(Clone, Copy)]
-pub enum ModelAnswer {
-    Model(TStdStreamModel),
-    Refused(Refusal),
-}
-
 pub(crate) fn branch_ok(branch: TStdBranch) -> bool
     ensures { result ≡ branch_ok branch }
 {
@@ -49,19 +43,6 @@ pub(crate) fn branch_ok(branch: TStdBranch) -> bool
             eb_size,
         } => rate_ok(rbx_bps) & size_ok(mb_size) & size_ok(eb_size),
     }
-}
-
-// a - b, or 0 where b is the larger.
-fn saturating_sub(a: usize, b: usize) -> usize
-    ensures { result ≡ a - b }
-{
-    if b <= a { a - b } else { 0 }
-}
-
-fn least(a: u64, b: u64) -> u64
-    ensures { result ≡ min a b }
-{
-    if a <= b { a } else { b }
 }
 
 // BSmux + BSoh: Rmax for 0.004 s and for 1/750 s, in bytes.
@@ -88,45 +69,35 @@ fn video_model(rmax_bps: u64, rbx_bps: u64, mb_size: usize, eb_size: usize) -> T
     }
 }
 
-fn model_if(ok: bool, model: TStdStreamModel) -> ModelAnswer
-    ensures { result ≡ model_if ok model }
-{
-    if ok {
-        ModelAnswer::Model(model)
-    } else {
-        ModelAnswer::Refused(Refusal::OutsideLimits)
-    }
-}
-
 impl TStdStreamModel {
     // Ruled out: a branch outside the limits taken because the rate is inside; a rate cut to the limit.
-    pub fn new(rx_bps: u64, branch: TStdBranch) -> ModelAnswer
+    pub fn new(rx_bps: u64, branch: TStdBranch) -> Result<TStdStreamModel, Refusal>
         ensures { result ≡ new_model rx_bps branch }
     {
-        let ok = rate_ok(rx_bps) & branch_ok(branch);
-        model_if(ok, TStdStreamModel { rx_bps, branch })
+        if !(rate_ok(rx_bps) & branch_ok(branch)) {
+            return Err(Refusal::OutsideLimits);
+        }
+        Ok(TStdStreamModel { rx_bps, branch })
     }
 
     // Ruled out: the old rate kept; a refusal because of the branch, which is no argument.
-    pub fn with_rx_bps(self, v: u64) -> ModelAnswer
+    pub fn with_rx_bps(self, v: u64) -> Result<TStdStreamModel, Refusal>
         ensures { result ≡ with_rx_bps self v }
     {
-        let mut next = self;
-        next.rx_bps = v;
-        model_if(rate_ok(v), next)
+        if !rate_ok(v) {
+            return Err(Refusal::OutsideLimits);
+        }
+        Ok(TStdStreamModel { rx_bps: v, ..self })
     }
 
     // Ruled out: a Video branch taken whose Rbxn is outside; the rate changed.
-    pub fn with_branch(self, v: TStdBranch) -> ModelAnswer
+    pub fn with_branch(self, v: TStdBranch) -> Result<TStdStreamModel, Refusal>
         ensures { result ≡ with_branch self v }
     {
-        model_if(
-            branch_ok(v),
-            TStdStreamModel {
-                rx_bps: self.rx_bps,
-                branch: v,
-            },
-        )
+        if !branch_ok(v) {
+            return Err(Refusal::OutsideLimits);
+        }
+        Ok(TStdStreamModel { branch: v, ..self })
     }
 
     // Ruled out: Bsys's 1,536 bytes as BSn; Rxsys's 1,000,000 bit/s as Rxn.
@@ -147,16 +118,15 @@ impl TStdStreamModel {
         rmax_bps: u64,
         vbv_buffer_size_bytes: usize,
         vbv_max_bytes: usize,
-    ) -> ModelAnswer
+    ) -> Result<TStdStreamModel, Refusal>
         ensures { result ≡ video_low_main_level rmax_bps vbv_buffer_size_bytes vbv_max_bytes }
     {
-        if rate_ok(rmax_bps) & size_ok(vbv_buffer_size_bytes) & size_ok(vbv_max_bytes) {
-            let headroom = saturating_sub(vbv_max_bytes, vbv_buffer_size_bytes);
-            let mb_size = mux_and_overhead(rmax_bps) + headroom;
-            ModelAnswer::Model(video_model(rmax_bps, rmax_bps, mb_size, vbv_buffer_size_bytes))
-        } else {
-            ModelAnswer::Refused(Refusal::OutsideLimits)
+        if !(rate_ok(rmax_bps) & size_ok(vbv_buffer_size_bytes) & size_ok(vbv_max_bytes)) {
+            return Err(Refusal::OutsideLimits);
         }
+        let headroom = vbv_max_bytes.saturating_sub(vbv_buffer_size_bytes);
+        let mb_size = mux_and_overhead(rmax_bps) + headroom;
+        Ok(video_model(rmax_bps, rmax_bps, mb_size, vbv_buffer_size_bytes))
     }
 
     // High-1440 or High level; res_bps is the rate of the elementary stream.
@@ -165,15 +135,14 @@ impl TStdStreamModel {
         rmax_bps: u64,
         res_bps: u64,
         vbv_buffer_size_bytes: usize,
-    ) -> ModelAnswer
+    ) -> Result<TStdStreamModel, Refusal>
         ensures { result ≡ video_high_level rmax_bps res_bps vbv_buffer_size_bytes }
     {
-        if rate_ok(rmax_bps) & rate_ok(res_bps) & size_ok(vbv_buffer_size_bytes) {
-            let rbx_bps = least(res_bps + res_bps / 20, rmax_bps);
-            let mb_size = mux_and_overhead(rmax_bps);
-            ModelAnswer::Model(video_model(rmax_bps, rbx_bps, mb_size, vbv_buffer_size_bytes))
-        } else {
-            ModelAnswer::Refused(Refusal::OutsideLimits)
+        if !(rate_ok(rmax_bps) & rate_ok(res_bps) & size_ok(vbv_buffer_size_bytes)) {
+            return Err(Refusal::OutsideLimits);
         }
+        let rbx_bps = (res_bps + res_bps / 20).min(rmax_bps);
+        let mb_size = mux_and_overhead(rmax_bps);
+        Ok(video_model(rmax_bps, rbx_bps, mb_size, vbv_buffer_size_bytes))
     }
 }

@@ -1,9 +1,9 @@
 // Whose packets a PID carries: the first stream of that PID, else the system branch, else nobody's.
-ghost use Rattle.std.specs.Prelude.{◌≡◌, ◌≤◌, length, take};
-ghost use Rattle.profile.specs.Owner.{first_index, owner_of, owner_by, pids_of};
+ghost use Rattle.std.specs.Prelude.{◌≡◌, take};
+ghost use Rattle.profile.specs.Owner.{index_of, owner_of, owner_by, pids_of};
 
 use crate::config::TStdConfig;
-use crate::limits::{MAX_STREAMS, MAX_SYSTEM_PIDS, used};
+use crate::limits::{MAX_STREAMS, MAX_SYSTEM_PIDS};
 
 #[derive(Clone, Copy)]
 pub enum Owner {
@@ -22,38 +22,25 @@ pub struct Pids {
     pub system_count: usize,
 }
 
-// Of the first count PIDs the index of the first that is this one; count where none is.
-fn first_index(pids: &[u16], count: usize, pid: u16) -> usize
-    requires { count ≤ length pids.now }
-    ensures { result ≡ first_index (take count pids.now) pid }
+// Of the first count PIDs the index of the first that is this one.
+fn index_of(pids: &[u16], count: usize, pid: u16) -> Option<usize>
+    ensures { result ≡ index_of (take count pids.now) pid }
 {
-    let mut i = 0;
-    while i < count {
-        if pids[i] == pid {
-            return i;
-        }
-        i += 1;
-    }
-    i
+    pids.iter().take(count).position(|p| *p == pid)
 }
 
 impl Pids {
-    // All slots of the streams are searched, so that the loop has a fixed end; a slot past the count is none.
     // Ruled out: the last of two streams of the PID; the system branch for a PID that is in both lists.
     pub fn owner(self, pid: u16) -> Owner
         ensures { result ≡ owner_by self pid }
     {
-        let streams = self.streams;
-        let i = first_index(&streams, MAX_STREAMS, pid);
-        if i < used(self.stream_count, MAX_STREAMS) {
+        if let Some(i) = index_of(&self.streams, self.stream_count, pid) {
             return Owner::Stream(i);
         }
-        let system = self.system;
-        let system_end = used(self.system_count, MAX_SYSTEM_PIDS);
-        if first_index(&system, system_end, pid) < system_end {
-            return Owner::System;
+        match index_of(&self.system, self.system_count, pid) {
+            Some(_) => Owner::System,
+            None => Owner::Nobody,
         }
-        Owner::Nobody
     }
 }
 
@@ -63,16 +50,9 @@ impl TStdConfig {
         ensures { result ≡ pids_of self }
     {
         let streams = self.streams;
-        let mut pids = [0u16; MAX_STREAMS];
-        let mut i = 0;
-        while i < MAX_STREAMS {
-            let stream = streams[i];
-            pids[i] = stream.pid;
-            i += 1;
-        }
         let system = self.system_pids;
         Pids {
-            streams: pids,
+            streams: streams.map(|stream| stream.pid),
             stream_count: self.stream_count,
             system,
             system_count: self.system_count,
@@ -83,7 +63,6 @@ impl TStdConfig {
     pub fn owner(self, pid: u16) -> Owner
         ensures { result ≡ owner_of self pid }
     {
-        let pids = self.pids();
-        pids.owner(pid)
+        self.pids().owner(pid)
     }
 }

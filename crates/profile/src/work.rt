@@ -7,19 +7,12 @@ use crate::config::TStdConfig;
 use crate::limits::{Limits, in_limits};
 use error::Refusal;
 
-// How many f64, u64 and chain records.
+// How many f64, u64 and chain records: what is lent, or what a replay needs.
 #[derive(Clone, Copy)]
 pub struct WorkSize {
     pub times: usize,
     pub places: usize,
     pub row: usize,
-}
-
-#[derive(Clone, Copy)]
-pub enum Checked {
-    // What the replay needs of the work and row that it is lent.
-    Fits(WorkSize),
-    Refused(Refusal),
 }
 
 // One record for each stream, one more where there are system PIDs.
@@ -63,11 +56,16 @@ fn needed(config: TStdConfig) -> WorkSize
 
 // Numbers 1, 2 and 3 in that order, else what the replay needs.
 // Ruled out: number 2 for a configuration outside the limits; a row without the system chain's record taken.
-pub fn check(config: TStdConfig, limits: Limits, lent: WorkSize, recording_len: usize) -> Checked
+pub fn check(
+    config: TStdConfig,
+    limits: Limits,
+    lent: WorkSize,
+    recording_len: usize,
+) -> Result<WorkSize, Refusal>
     ensures { result ≡ check_of limits config lent recording_len }
 {
     if !in_limits(config, limits) {
-        return Checked::Refused(Refusal::OutsideLimits);
+        return Err(Refusal::OutsideLimits);
     }
     if !times_fit(
         config.stream_count,
@@ -75,17 +73,17 @@ pub fn check(config: TStdConfig, limits: Limits, lent: WorkSize, recording_len: 
         config.clock_depth,
         lent.times,
     ) {
-        return Checked::Refused(Refusal::WorkTooShort);
+        return Err(Refusal::WorkTooShort);
     }
     let size = needed(config);
     if lent.places < size.places {
-        return Checked::Refused(Refusal::WorkTooShort);
+        return Err(Refusal::WorkTooShort);
     }
     if lent.row < size.row {
-        return Checked::Refused(Refusal::WorkTooShort);
+        return Err(Refusal::WorkTooShort);
     }
     if limits.longest_recording < recording_len {
-        return Checked::Refused(Refusal::RecordingTooLong);
+        return Err(Refusal::RecordingTooLong);
     }
-    Checked::Fits(size)
+    Ok(size)
 }

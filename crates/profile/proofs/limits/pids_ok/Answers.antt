@@ -1,21 +1,14 @@
--- `pids_ok` meets its contract. The invariant: each PID before i passed. Assumes nothing.
+-- `pids_ok` meets its contract: std's `all` of the first count. Assumes nothing.
 use borrow.Author.Rules.{rules}
-use mathlib.Core.Path.{sym, ◌∙◌}
-use native.Mathlib.Omega.{arith}
+use borrow.Author.Tests.{tests}
+use mathlib.Core.Path.{◌∙◌}
+use Rattle.std.proofs.lemmas.Iterator.{YieldsList-from_slice, YieldsList-from_take}
+use Rattle.std.proofs.lemmas.Iterator.Search.{all_from_yields_List}
 use Rattle.profile.specs.Range.{pid_ok}
-use Rattle.profile.proofs.Every.{passed_none, passed_next, passed_stops, passed_all}
+use Rattle.profile.proofs.Every.{every_list_all}
 use Rattle.profile.proofs.limits.pids_ok.Goals as goal
 
-pub loop-i-init : goal.loop-i-init
-loop-i-init c = passed_none pid_ok _ _ _ 16 (search rules) c.used-end.ensures
-
-pub returns-then-not-pid_ok : goal.returns-then-not-pid_ok
-returns-then-not-pid_ok c =
-    sym (passed_stops pid_ok _ _ _ 0 _ c.loop-i.invariant (omega arith) (sym c.pid_ok.ensures ∙ c.if-not-pid_ok.true))
-
-pub loop-i-preserved : goal.loop-i-preserved
-loop-i-preserved c =
-    passed_next pid_ok _ _ _ 0 _ c.loop-i.invariant (omega arith) (sym c.pid_ok.ensures ∙ c.if-not-pid_ok.false)
-
 pub returns : goal.returns
-returns c = sym (passed_all pid_ok _ _ _ _ c.loop-i.invariant (omega arith))
+returns c =
+    all_from_yields_List pid_ok _ _ _ c.all.ensures.ran (YieldsList-from_take _ (YieldsList-from_slice c.args.pids (cc)) c.take.ensures.count) (λ x b q k. search (rules, tests))
+    ∙ every_list_all pid_ok _

@@ -6,7 +6,7 @@ use mathlib.Core.Path.{◌≡◌, sym, ap, ◌∙◌}
 use mathlib.Core.Bool.{Bool, true}
 use native.Mathlib.Omega.{arith}
 use borrow.Author.Tests.{leb-true, leb-false}
-use Rattle.profile.specs.declared.work.Checked.{Checked}
+use Rattle.std.specs.Prelude.{Ok}
 use Rattle.profile.specs.Work.{needed_of, times_needed}
 use Rattle.profile.specs.declared.config.TStdConfig.{TStdConfig}
 use Rattle.profile.proofs.Within.{limits_within}
@@ -66,4 +66,4 @@ returns c =
       places = rw c.needed-size.ensures at c.if-lent-size.false;
       row = rw c.needed-size.ensures at c.if-lent-size-2.false;
     } in
-    ap Checked.Fits c.needed-size.ensures ∙ sym (check_fits _ _ _ _ (sym c.in_limits.ensures ∙ c.if-not-in_limits.false) covered c.if-limits-recording_len.false)
+    ap Ok c.needed-size.ensures ∙ sym (check_fits _ _ _ _ (sym c.in_limits.ensures ∙ c.if-not-in_limits.false) covered c.if-limits-recording_len.false)

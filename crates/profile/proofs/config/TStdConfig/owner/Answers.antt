@@ -4,4 +4,4 @@ use Rattle.profile.proofs.Ownership.{pids_owner}
 use Rattle.profile.proofs.config.TStdConfig.owner.Goals as goal
 
 pub returns : goal.returns
-returns c = c.owner.ensures ∙ rw c.pids-pids.ensures (pids_owner _ _)
+returns c = c.owner.ensures ∙ rw c.pids.ensures (pids_owner _ _)

@@ -9,12 +9,12 @@ use Rattle.profile.proofs.Ranges.{RateWithin, rate_true, and_left, and_right}
 use Rattle.profile.proofs.model.TStdStreamModel.video_high_level.Goals as goal
 
 -- what the test of the arguments tells
-tested : (c : goal.Then-rate_ok-size_ok) →
+tested : (c : goal.Else-not-rate_ok-size_ok) →
     let a = c.args in
     rate_ok a.rmax_bps && rate_ok a.res_bps && size_ok a.vbv_buffer_size_bytes ≡ true
 tested c = cc
 
-rates : (c : goal.Then-rate_ok-size_ok) →
+rates : (c : goal.Else-not-rate_ok-size_ok) →
     let a = c.args in
     RateWithin a.rmax_bps × RateWithin a.res_bps
 rates c =
@@ -28,13 +28,13 @@ overflow_add-res_bps c = omega (arith, (rates c).1.most)
 pub video_model-requires : goal.video_model-requires
 video_model-requires c = (rates c.before.before).0.most
 
-pub returns-then-rate_ok-size_ok : goal.returns-then-rate_ok-size_ok
+pub returns : goal.returns
 unfolding video_high_level
-returns-then-rate_ok-size_ok c = simp (tested c.before.before.before) (cc)
+returns c = simp (tested c.before.before.before) (cc)
 
-pub returns-else-rate_ok-size_ok : goal.returns-else-rate_ok-size_ok
+pub returns-then-not-rate_ok-size_ok : goal.returns-then-not-rate_ok-size_ok
 unfolding video_high_level
-returns-else-rate_ok-size_ok c =
+returns-then-not-rate_ok-size_ok c =
     let a = c.args in
     let failed : rate_ok a.rmax_bps && rate_ok a.res_bps && size_ok a.vbv_buffer_size_bytes ≡ false = cc in
     simp failed

@@ -7,20 +7,20 @@ use Rattle.profile.specs.Range.{rate_ok, size_ok}
 use Rattle.profile.specs.Model.{video_low_main_level}
 use Rattle.profile.proofs.Ranges.{RateWithin, SizeWithin, rate_true, size_true, and_left, and_right}
 use Rattle.profile.proofs.model.TStdStreamModel.video_low_main_level.Goals as goal
-use Rattle.profile.proofs.model.TStdStreamModel.video_low_main_level.Goals.{Then-rate_ok-size_ok}
+use Rattle.profile.proofs.model.TStdStreamModel.video_low_main_level.Goals.{Else-not-rate_ok-size_ok}
 
 -- what the test of the arguments tells
-tested : (c : Then-rate_ok-size_ok) →
+tested : (c : Else-not-rate_ok-size_ok) →
     let a = c.args in
     rate_ok a.rmax_bps && size_ok a.vbv_buffer_size_bytes && size_ok a.vbv_max_bytes ≡ true
 tested c = cc
 
-record Bounds (c : Then-rate_ok-size_ok) : Type 0 where
+record Bounds (c : Else-not-rate_ok-size_ok) : Type 0 where
   rmax : RateWithin c.args.rmax_bps
   vbv : SizeWithin c.args.vbv_buffer_size_bytes
   vbv_max : SizeWithin c.args.vbv_max_bytes
 
-bounds : (c : Then-rate_ok-size_ok) → Bounds c
+bounds : (c : Else-not-rate_ok-size_ok) → Bounds c
 bounds c =
     let a = c.args in
     let rmax = rate_ok a.rmax_bps in
@@ -39,13 +39,13 @@ overflow_add-mb_size c = let b = bounds c.before.before in omega (arith, b.rmax.
 pub video_model-requires : goal.video_model-requires
 video_model-requires c = (bounds c.before.before).rmax.most
 
-pub returns-then-rate_ok-size_ok : goal.returns-then-rate_ok-size_ok
+pub returns : goal.returns
 unfolding video_low_main_level
-returns-then-rate_ok-size_ok c = simp (tested c.before.before.before) (cc)
+returns c = simp (tested c.before.before.before) (cc)
 
-pub returns-else-rate_ok-size_ok : goal.returns-else-rate_ok-size_ok
+pub returns-then-not-rate_ok-size_ok : goal.returns-then-not-rate_ok-size_ok
 unfolding video_low_main_level
-returns-else-rate_ok-size_ok c =
+returns-then-not-rate_ok-size_ok c =
     let a = c.args in
     let failed : rate_ok a.rmax_bps && size_ok a.vbv_buffer_size_bytes && size_ok a.vbv_max_bytes ≡ false = cc in
     simp failed
