@@ -1,10 +1,9 @@
 -- What a caller has once all packets are passed: the answer is that of `build`, and an accepted clock stands in the work, where
 -- the cursor finds it, within bounds.
-use Rattle.std.proofs.Common.{◌≡◌, ℕ, zero, suc, ◌+◌, ◌*◌, ◌^◌, ◌<◌, ◌≤◌, true, List, length, sym, refl, ap, ◌∙◌, arith}
+use Rattle.std.proofs.Common.{◌≡◌, ℕ, zero, suc, ◌+◌, ◌*◌, ◌^◌, ◌<◌, ◌≤◌, true, List, length, sym, refl, ap, ◌∙◌, arith, Result, Ok, Err}
 use lib.Ieee.{Float}
 use Rattle.error.specs.declared.Refusal.{Refusal}
 use Rattle.packet.specs.declared.Parse.{Parse}
-use Rattle.arrival.specs.declared.ClockAnswer.{ClockAnswer}
 use Rattle.arrival.specs.ArrivalClock.{Built, intervals, refused, build}
 use Rattle.arrival.specs.Samples.{samples_of}
 use Rattle.arrival.specs.Work.{holds, intervals_in}
@@ -28,12 +27,12 @@ module _ (pcrPid depth from : ℕ) (times : List Float) (places : List ℕ) (ps 
   abbrev built : Built
   built = build depth (samples_of pcrPid ps)
 
-  pub refused_is : {r : Refusal} → answer_of depth passed.pass.build ≡ ClockAnswer.Refused r → built ≡ refused r
-  refused_is e = sym (pass_builds pcrPid depth from times places ps shallow room short) ∙ ap (λ (a : ClockAnswer). built_by a from (building_of passed)) e
+  pub refused_is : {r : Refusal} → answer_of depth passed.pass.build ≡ Err r → built ≡ refused r
+  refused_is e = sym (pass_builds pcrPid depth from times places ps shallow room short) ∙ ap (λ (a : Result ℕ Refusal). built_by a from (building_of passed)) e
 
-  module _ (n : ℕ) (e : answer_of depth passed.pass.build ≡ ClockAnswer.Intervals n) where
+  module _ (n : ℕ) (e : answer_of depth passed.pass.build ≡ Ok n) where
     pub clock_is : built ≡ intervals (intervals_in passed.times from passed.places 0 n)
-    clock_is = sym (pass_builds pcrPid depth from times places ps shallow room short) ∙ ap (λ (a : ClockAnswer). built_by a from (building_of passed)) e
+    clock_is = sym (pass_builds pcrPid depth from times places ps shallow room short) ∙ ap (λ (a : Result ℕ Refusal). built_by a from (building_of passed)) e
 
     -- 2 to depth samples, and n intervals, one fewer
     pub clock_counted : Counted depth (length (samples_of pcrPid ps)) n

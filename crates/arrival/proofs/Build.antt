@@ -1,6 +1,6 @@
 -- The clock built sample by sample in lent work is `build` of the samples, and the pass over packets builds that of their
 -- samples.
-use Rattle.std.proofs.Common.{◌≡◌, ℕ, zero, suc, ◌+◌, ◌-◌, ◌*◌, ◌^◌, ◌<◌, ◌≤◌, Bool, true, false, cond, ◌||◌, eqb, ltb, leb, List, [], ◌∷◌, ◌++◌, length, get_or, set, refl, ap, ◌∙◌, append_assoc, append-nil, add-one, arith, length-set, get_or-set_other, get_or-set_same, le-ltb, lt-ltb, ne_eqb, le-leb, leb-false, leb-true}
+use Rattle.std.proofs.Common.{◌≡◌, ℕ, zero, suc, ◌+◌, ◌-◌, ◌*◌, ◌^◌, ◌<◌, ◌≤◌, Bool, true, false, cond, ◌||◌, eqb, ltb, leb, List, [], ◌∷◌, ◌++◌, length, get_or, set, refl, ap, ◌∙◌, append_assoc, append-nil, add-one, arith, length-set, get_or-set_other, get_or-set_same, le-ltb, lt-ltb, ne_eqb, le-leb, leb-false, leb-true, None, Some, Result, Ok, Err, is_some}
 use lib.Ieee.{Float, nan, lt}
 use Rattle.ieee.specs.Binary64.{1000f, 1000000000f}
 use Rattle.error.specs.declared.Refusal.{Refusal}
@@ -9,12 +9,10 @@ use Rattle.arrival.specs.declared.RateInterval.{RateInterval}
 use Rattle.arrival.specs.declared.Sample.{Sample}
 use Rattle.arrival.specs.declared.Anchor.{Anchor}
 use Rattle.arrival.specs.declared.Closed.{Closed}
-use Rattle.arrival.specs.declared.FirstRefusal.{FirstRefusal}
 use Rattle.arrival.specs.declared.ClockBuild.{ClockBuild}
-use Rattle.arrival.specs.declared.ClockAnswer.{ClockAnswer}
 use Rattle.arrival.specs.ArrivalClock.{Built, intervals, refused, anchor_at, interval_at, stepped, restarted, step_to, rate_to, close, and_then, build_from, build}
 use Rattle.arrival.specs.Work.{holds, interval_in, intervals_in}
-use Rattle.arrival.specs.Pass.{no_sample, Building, store_times, store_places, counted_with, counted, first_refusal, closed_by, is_refused, in_range, take_sample, take_samples, answer_of, unless_refused, built_by, built_in}
+use Rattle.arrival.specs.Pass.{no_sample, Building, store_times, store_places, counted_with, counted, first_refusal, closed_by, in_range, take_sample, take_samples, answer_of, refusal_at, unless_refused, built_by, built_in}
 use Rattle.arrival.proofs.Cursors.{Room, holds_room, room_holds}
 
 -- ---- stores side by side
@@ -92,7 +90,7 @@ module _ (depth from : ℕ) where
   -- nothing but the count changes any more
   pub record Frozen (w : Building) : Type 0 where
     pub some : 0 < w.build.samples
-    pub shut : (is_refused w.build.refusal || leb depth w.build.samples) ≡ true
+    pub shut : (is_some w.build.refusal || leb depth w.build.samples) ≡ true
     pub low : w.build.anchor.extended < 2 ^ 63
     pub room : holds depth w.times from w.places ≡ true
 
@@ -118,7 +116,7 @@ module _ (depth from : ℕ) where
   count_all (s ∷ ss) w f l h =
       let e : w.build.samples + 1 + length ss ≡ w.build.samples + suc (length ss) = omega arith in
       rw (count_one w s f l.0 (omega arith))
-      (count_all ss (grown 1 w) (record { some = omega (arith, f.some); shut = still (is_refused w.build.refusal) w.build.samples f.shut; low = f.low; room = f.room }) l.1 (omega arith)
+      (count_all ss (grown 1 w) (record { some = omega (arith, f.some); shut = still (is_some w.build.refusal) w.build.samples f.shut; low = f.low; room = f.room }) l.1 (omega arith)
       ∙ rw e)
 
 -- ---- samples that build
@@ -136,14 +134,13 @@ prepended_then is i (intervals js) = ap intervals (append_assoc is (i ∷ []) js
 prepended_then is i (refused r) = refl
 
 -- the refusal of sample number n comes back from what is kept of it, its kind and n
-record Kept (n : ℕ) (r : Refusal) : Type 0 where
-  is_refused : is_refused (first_refusal r) ≡ true
-  comes_back : (m : ℕ) → unless_refused (first_refusal r) n m ≡ ClockAnswer.Refused r
+abbrev Kept : ℕ → Refusal → Type 0
+Kept n r = refusal_at (first_refusal r) n ≡ r
 
 -- behind sample number n: the anchor is one wrap and a raw PCR further at most, or the refusal is kept
-abbrev Follows : ℕ → ℕ → Closed → Type 0
-Follows n top (Closed.Closes i a) = a.extended ≤ top
-Follows n top (Closed.Refuses r) = Kept n r
+abbrev Follows : ℕ → ℕ → Result Closed Refusal → Type 0
+Follows n top (Ok c) = c.anchor.extended ≤ top
+Follows n top (Err r) = Kept n r
 
 close_follows : (n : ℕ) (a : Anchor) (s : Sample) (top : ℕ) → s.ticks ≤ top → a.extended + pcr_modulus ≤ top → Follows n top (close n a s)
 unfolding close
@@ -151,13 +148,13 @@ close_follows n a s top h g = by s.marked (eqb n 1) (eqb (step_to a s) 0) (lt (r
   where
     by : (m o z r : Bool)
         → Follows n top
-        (cond m (cond o (Closed.Refuses (Refusal.DiscontinuityBeforeRate n)) (Closed.Closes (interval_at a a.rate) (restarted a s)))
-        (cond z (Closed.Refuses (Refusal.RepeatedPcr n))
-        (cond r (Closed.Refuses (Refusal.RateOutsideLimits n)) (Closed.Closes (interval_at a (rate_to a s)) (stepped a s)))))
-    by true true z r = record { is_refused = refl; comes_back = λ m. refl }
+        (cond m (cond o (Err (Refusal.DiscontinuityBeforeRate n)) (Ok (record { interval = interval_at a a.rate; anchor = restarted a s })))
+        (cond z (Err (Refusal.RepeatedPcr n))
+        (cond r (Err (Refusal.RateOutsideLimits n)) (Ok (record { interval = interval_at a (rate_to a s); anchor = stepped a s })))))
+    by true true z r = refl
     by true false z r = h
-    by false o true r = record { is_refused = refl; comes_back = λ m. refl }
-    by false o false true = record { is_refused = refl; comes_back = λ m. refl }
+    by false o true r = refl
+    by false o false true = refl
     by false o false false = omega arith
 
 module _ (depth from : ℕ) where
@@ -170,7 +167,7 @@ module _ (depth from : ℕ) where
   built_is w = by (ltb depth w.build.samples) (ltb w.build.samples 2)
     where
       by : (t u : Bool)
-          → built_by (cond t (ClockAnswer.Refused (Refusal.ClockFull depth)) (cond u (ClockAnswer.Refused Refusal.TooFewPcrs) (unless_refused w.build.refusal w.build.refused_sample (w.build.samples - 1)))) from w
+          → built_by (cond t (Err (Refusal.ClockFull depth)) (cond u (Err Refusal.TooFewPcrs) (unless_refused w.build.refusal w.build.refused_sample (w.build.samples - 1)))) from w
           ≡ cond t (refused (Refusal.ClockFull depth)) (cond u (refused Refusal.TooFewPcrs) (built_by (unless_refused w.build.refusal w.build.refused_sample (w.build.samples - 1)) from w))
       by true u = refl
       by false true = refl
@@ -183,7 +180,7 @@ module _ (depth from : ℕ) where
   pub record Standing (k : ℕ) (is : List RateInterval) (w : Building) : Type 0 where
     pub count : w.build.samples ≡ k + 1
     pub few : k ≤ 2 ^ 20
-    pub accepted : w.build.refusal ≡ FirstRefusal.Absent
+    pub accepted : w.build.refusal ≡ None
     pub low : w.build.anchor.extended ≤ (k + 1) * 2 ^ 42
     pub room : holds depth w.times from w.places ≡ true
     pub stand : intervals_in w.times from w.places 0 k ≡ is
@@ -215,19 +212,19 @@ module _ (depth from : ℕ) where
       follows : Follows (k + 1) ((k + 1 + 1) * 2 ^ 42) (close (k + 1) w.build.anchor s)
       follows = close_follows (k + 1) w.build.anchor s ((k + 1 + 1) * 2 ^ 42) (omega arith) (omega (arith, st.low))
 
-      refusing : leb depth (k + 1) ≡ false → {r : Refusal} → close (k + 1) w.build.anchor s ≡ Closed.Refuses r → Builds-to k is w (s ∷ ss)
+      refusing : leb depth (k + 1) ≡ false → {r : Refusal} → close (k + 1) w.build.anchor s ≡ Err r → Builds-to k is w (s ∷ ss)
       unfolding Builds-to take_samples closed_by build_from
       refusing h {r} e =
-          let v : Building = record { build = counted_with w.build w.build.anchor (first_refusal r) (k + 1); times = w.times; places = w.places } in
+          let v : Building = record { build = counted_with w.build w.build.anchor (Some (first_refusal r)) (k + 1); times = w.times; places = w.places } in
           let kept : Kept (k + 1) r = rw e at follows in
           let t : take_sample depth from w s ≡ v = taking h ∙ rw (e, st.count) in
           let n : k + 1 + 1 + length ss ≡ k + 1 + suc (length ss) = omega arith in
           ap (λ (x : Building). built_in depth from (take_samples depth from x ss)) t
-          ∙ ap (built_in depth from) (count_all depth from ss v (record { some = omega (arith, st.count); shut = rw kept.is_refused; low = omega (arith, st.low, st.few); room = st.room }) ls (omega (arith, st.count)))
+          ∙ ap (built_in depth from) (count_all depth from ss v (record { some = omega (arith, st.count); shut = refl; low = omega (arith, st.low, st.few); room = st.room }) ls (omega (arith, st.count)))
           ∙ built_is (grown depth from (length ss) v)
-          ∙ rw (st.count, n, e, kept.comes_back)
+          ∙ rw (st.count, n, e, kept)
 
-      closing : leb depth (k + 1) ≡ false → {i : RateInterval} {a : Anchor} → close (k + 1) w.build.anchor s ≡ Closed.Closes i a
+      closing : leb depth (k + 1) ≡ false → {i : RateInterval} {a : Anchor} → close (k + 1) w.build.anchor s ≡ Ok (record { interval = i; anchor = a })
           → ((v : Building) → Standing (k + 1) (is ++ (i ∷ [])) v → Builds-to (k + 1) (is ++ (i ∷ [])) v ss) → Builds-to k is w (s ∷ ss)
       unfolding Builds-to take_samples closed_by build_from
       closing h {i} {a} e again =
@@ -237,7 +234,7 @@ module _ (depth from : ℕ) where
           let n : k + 1 + 1 + length ss ≡ k + 1 + suc (length ss) = omega arith in
           let d = leb-false depth (k + 1) h in
           let r = holds_room depth w.times from w.places st.room in
-          let far : Follows (k + 1) ((k + 1 + 1) * 2 ^ 42) (Closed.Closes i a) = rw e at follows in
+          let far : Follows (k + 1) ((k + 1 + 1) * 2 ^ 42) (Ok (record { interval = i; anchor = a })) = rw e at follows in
           let stand : intervals_in (store_times w.times from k i) from (store_places w.places k i) 0 (k + 1) ≡ is ++ (i ∷ []) =
           rw add-one (store_adds w.times from w.places k i (omega (arith, r.of_times)) (omega (arith, r.of_places)) k 0 (omega arith) ∙ ap (λ (js : List RateInterval). js ++ (i ∷ [])) st.stand) in
           ap (λ (x : Building). built_in depth from (take_samples depth from x ss)) t
@@ -251,10 +248,10 @@ module _ (depth from : ℕ) where
         by (λ js v f. builds ss (k + 1) js v f l.1 (omega arith)) (leb depth (k + 1)) refl (close (k + 1) w.build.anchor s) refl
       where
         by : ((js : List RateInterval) (v : Building) → Standing (k + 1) js v → Builds-to (k + 1) js v ss) → (b : Bool) → leb depth (k + 1) ≡ b
-            → (x : Closed) → close (k + 1) w.build.anchor s ≡ x → Builds-to k is w (s ∷ ss)
+            → (x : Result Closed Refusal) → close (k + 1) w.build.anchor s ≡ x → Builds-to k is w (s ∷ ss)
         by again true h x e = past_depth shallow k is w st s ss l.0 l.1 small h
-        by again false h (Closed.Refuses r) e = refusing shallow k is w st s ss l.0 l.1 small h e
-        by again false h (Closed.Closes i a) e = closing shallow k is w st s ss l.0 l.1 small h e (again (is ++ (i ∷ [])))
+        by again false h (Err r) e = refusing shallow k is w st s ss l.0 l.1 small h e
+        by again false h (Ok c) e = closing shallow k is w st s ss l.0 l.1 small h e (again (is ++ (c.interval ∷ [])))
 
     -- from no sample on
     module _ (times : List Float) (places : List ℕ) (h : holds depth times from places ≡ true) where

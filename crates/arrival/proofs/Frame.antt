@@ -1,14 +1,15 @@
 -- The pass writes only where its intervals stand: 3 * depth floats from `from` on, and the first 2 * depth numbers.
-use Rattle.std.proofs.Common.{◌≡◌, ℕ, ◌+◌, ◌-◌, ◌*◌, ◌<◌, ◌≤◌, Bool, true, false, cond, ◌&&◌, ◌||◌, eqb, leb, List, [], ◌∷◌, length, take, drop, set, refl, ◌∙◌, arith, length-set, drop-set-lt}
+use Rattle.std.proofs.Common.{◌≡◌, ℕ, ◌+◌, ◌-◌, ◌*◌, ◌<◌, ◌≤◌, Bool, true, false, cond, ◌&&◌, ◌||◌, eqb, leb, List, [], ◌∷◌, length, take, drop, set, refl, ◌∙◌, arith, length-set, drop-set-lt, Result, Ok, Err, is_some}
 use lib.Seq.{take-set-le}
 use lib.Ieee.{Float}
+use Rattle.error.specs.declared.Refusal.{Refusal}
 use Rattle.packet.specs.declared.Parse.{Parse}
 use Rattle.arrival.specs.declared.Sample.{Sample}
 use Rattle.arrival.specs.declared.Closed.{Closed}
 use Rattle.arrival.specs.ArrivalClock.{anchor_at, close}
 use Rattle.arrival.specs.Samples.{Seen, field_on, seen_in}
 use Rattle.arrival.specs.Work.{holds, never}
-use Rattle.arrival.specs.Pass.{Building, store_times, store_places, counted, closed_by, is_refused, in_range, take_sample, take_samples, Passing, building_of, pass_seen, pass_packet, pass_packets}
+use Rattle.arrival.specs.Pass.{Building, store_times, store_places, counted, closed_by, in_range, take_sample, take_samples, Passing, building_of, pass_seen, pass_packet, pass_packets}
 use Rattle.arrival.proofs.Taking.{below_depth}
 
 -- two stores side by side
@@ -44,34 +45,34 @@ module _ (depth from : ℕ) where
   abbrev KeepsWork : Building → Building → Type 0
   KeepsWork w v = Keeps w.times w.places v.times v.places
 
-  closed_keeps : (w : Building) (x : Closed) → w.build.samples < depth → KeepsWork w (closed_by from w x)
+  closed_keeps : (w : Building) (x : Result Closed Refusal) → w.build.samples < depth → KeepsWork w (closed_by from w x)
   unfolding closed_by store_times store_places
-  closed_keeps w (Closed.Closes i a) h =
+  closed_keeps w (Ok c) h =
       let at : ℕ = from + 3 * (w.build.samples - 1) in
       let end : ℕ = from + 3 * depth in
       record {
         times_length = simp length-set;
         places_length = simp length-set;
         before =
-            take-set-le from (set (set w.times at i.start_time) (at + 1) i.rate) (at + 2) i.pts_offset (omega arith)
-            ∙ take_pair from w.times at i.start_time i.rate (omega arith);
+            take-set-le from (set (set w.times at c.interval.start_time) (at + 1) c.interval.rate) (at + 2) c.interval.pts_offset (omega arith)
+            ∙ take_pair from w.times at c.interval.start_time c.interval.rate (omega arith);
         behind =
-            drop-set-lt end (set (set w.times at i.start_time) (at + 1) i.rate) (at + 2) i.pts_offset (omega arith)
-            ∙ drop_pair end w.times at i.start_time i.rate (omega arith);
-        places_behind = drop_pair (2 * depth) w.places (2 * (w.build.samples - 1)) i.start_pos i.pcr_ref_90k (omega arith);
+            drop-set-lt end (set (set w.times at c.interval.start_time) (at + 1) c.interval.rate) (at + 2) c.interval.pts_offset (omega arith)
+            ∙ drop_pair end w.times at c.interval.start_time c.interval.rate (omega arith);
+        places_behind = drop_pair (2 * depth) w.places (2 * (w.build.samples - 1)) c.interval.start_pos c.interval.pcr_ref_90k (omega arith);
       }
-  closed_keeps w (Closed.Refuses r) h = keeps_all w.times w.places
+  closed_keeps w (Err r) h = keeps_all w.times w.places
 
   sample_keeps : (w : Building) (s : Sample) → KeepsWork w (take_sample depth from w s)
   unfolding take_sample
   sample_keeps w s =
-      by (in_range w.build s && holds depth w.times from w.places) (eqb w.build.samples 0) (is_refused w.build.refusal || leb depth w.build.samples) refl
+      by (in_range w.build s && holds depth w.times from w.places) (eqb w.build.samples 0) (is_some w.build.refusal || leb depth w.build.samples) refl
     where
-      by : (t z r : Bool) → (is_refused w.build.refusal || leb depth w.build.samples) ≡ r
+      by : (t z r : Bool) → (is_some w.build.refusal || leb depth w.build.samples) ≡ r
           → KeepsWork w (cond t (cond z (counted w (anchor_at s)) (cond r (counted w w.build.anchor) (closed_by from w (close w.build.samples w.build.anchor s)))) w)
       by true true r e = keeps_all w.times w.places
       by true false true e = keeps_all w.times w.places
-      by true false false e = closed_keeps w _ (below_depth (is_refused w.build.refusal) depth w.build.samples e)
+      by true false false e = closed_keeps w _ (below_depth (is_some w.build.refusal) depth w.build.samples e)
       by false z r e = keeps_all w.times w.places
 
   pub samples_keep : (ss : List Sample) (w : Building) → KeepsWork w (take_samples depth from w ss)

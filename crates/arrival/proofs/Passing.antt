@@ -1,5 +1,5 @@
 -- A packet passed, by the tests that lead to each case.
-use Rattle.std.proofs.Common.{◌≡◌, ℕ, ◌+◌, ◌-◌, ◌<◌, ◌≤◌, Bool, true, false, cond, ◌||◌, leb, List, [], refl, le-ltb, lt-ltb, eq-eqb, ne_eqb, le-leb}
+use Rattle.std.proofs.Common.{◌≡◌, ℕ, ◌+◌, ◌-◌, ◌<◌, ◌≤◌, Bool, true, false, cond, ◌||◌, leb, List, [], refl, le-ltb, lt-ltb, eq-eqb, ne_eqb, le-leb, Option, Err}
 use borrow.Author.Tests.{lt-leb}
 use lib.Ieee.{Float}
 use Rattle.error.specs.declared.Refusal.{Refusal}
@@ -11,24 +11,23 @@ use Rattle.packet.specs.declared.TsPacket.{TsPacket}
 use Rattle.packet.specs.declared.Parse.{Parse}
 use Rattle.arrival.specs.declared.ClockBuild.{ClockBuild}
 use Rattle.arrival.specs.declared.ClockPass.{ClockPass}
-use Rattle.arrival.specs.declared.ClockAnswer.{ClockAnswer}
-use Rattle.arrival.specs.declared.FirstRefusal.{FirstRefusal}
+use Rattle.arrival.specs.declared.ClockFault.{ClockFault}
 use Rattle.arrival.specs.Samples.{ticks_of, field_on, Seen, seen_pcr, seen_in}
 use Rattle.arrival.specs.Work.{never}
 use Rattle.arrival.specs.Pass.{take_sample, take_samples, Builds, unless_refused, answer_of, Passing, pass_seen, other_packet, pass_field, pass_packet, Passes}
 
 -- ---- the answer
 module _ (depth : ℕ) (b : ClockBuild) where
-  pub answer_full : depth < b.samples → answer_of depth b ≡ ClockAnswer.Refused (Refusal.ClockFull depth)
+  pub answer_full : depth < b.samples → answer_of depth b ≡ Err (Refusal.ClockFull depth)
   unfolding answer_of
   answer_full h = rw (lt-ltb depth b.samples h)
 
   module _ (within : b.samples ≤ depth) where
-    pub answer_few : b.samples < 2 → answer_of depth b ≡ ClockAnswer.Refused Refusal.TooFewPcrs
+    pub answer_few : b.samples < 2 → answer_of depth b ≡ Err Refusal.TooFewPcrs
     unfolding answer_of
     answer_few h = rw (le-ltb depth b.samples within, lt-ltb b.samples 2 h)
 
-    pub answer_first : 2 ≤ b.samples → {r : FirstRefusal} → b.refusal ≡ r → answer_of depth b ≡ unless_refused r b.refused_sample (b.samples - 1)
+    pub answer_first : 2 ≤ b.samples → {r : Option ClockFault} → b.refusal ≡ r → answer_of depth b ≡ unless_refused r b.refused_sample (b.samples - 1)
     unfolding answer_of
     answer_first h e = rw (le-ltb depth b.samples within, le-ltb b.samples 2 h, e)
 

@@ -1,5 +1,5 @@
 -- A sample taken, by the tests that lead to each case.
-use Rattle.std.proofs.Common.{◌≡◌, ℕ, ◌-◌, ◌^◌, ◌<◌, Bool, true, false, ◌||◌, ltb, leb, List, refl, true≢false, ltb-true, eq-eqb, ne_eqb, leb-false}
+use Rattle.std.proofs.Common.{◌≡◌, ℕ, ◌-◌, ◌^◌, ◌<◌, Bool, true, false, ◌||◌, ltb, leb, List, refl, true≢false, ltb-true, eq-eqb, ne_eqb, leb-false, Result, Ok, Err, Some, is_some}
 use mathlib.Core.Bool.{and-false}
 use lib.Ieee.{Float}
 use Rattle.error.specs.declared.Refusal.{Refusal}
@@ -10,7 +10,7 @@ use Rattle.arrival.specs.declared.Closed.{Closed}
 use Rattle.arrival.specs.declared.ClockBuild.{ClockBuild}
 use Rattle.arrival.specs.ArrivalClock.{anchor_at, close}
 use Rattle.arrival.specs.Work.{holds}
-use Rattle.arrival.specs.Pass.{Building, store_times, store_places, first_refusal, counted_with, closed_by, is_refused, in_range, take_sample, Builds}
+use Rattle.arrival.specs.Pass.{Building, store_times, store_places, first_refusal, counted_with, closed_by, in_range, take_sample, Builds}
 use Rattle.arrival.proofs.Cursors.{three}
 
 -- the numbers of a build and a sample are below 2 ^ 63
@@ -38,13 +38,13 @@ module _ (depth from : ℕ) (b : ClockBuild) (times : List Float) (places : List
   abbrev w : Building
   w = record { build = b; times = times; places = places }
 
-  module _ (x : Closed) (r : ClockBuild) where
-    pub stored : {i : RateInterval} {a : Anchor} (t : List Float) (p : List ℕ) → x ≡ Closed.Closes i a → r ≡ counted_with b a b.refusal b.refused_sample
+  module _ (x : Result Closed Refusal) (r : ClockBuild) where
+    pub stored : {i : RateInterval} {a : Anchor} (t : List Float) (p : List ℕ) → x ≡ Ok (record { interval = i; anchor = a }) → r ≡ counted_with b a b.refusal b.refused_sample
         → t ≡ store_times times from (b.samples - 1) i → p ≡ store_places places (b.samples - 1) i → Builds (closed_by from w x) r t p
     unfolding closed_by
     stored t p e g h k = rw e (record { build_is = g; times_are = h; places_are = k })
 
-    pub remembered : {n : Refusal} → x ≡ Closed.Refuses n → r ≡ counted_with b b.anchor (first_refusal n) b.samples → Builds (closed_by from w x) r times places
+    pub remembered : {n : Refusal} → x ≡ Err n → r ≡ counted_with b b.anchor (Some (first_refusal n)) b.samples → Builds (closed_by from w x) r times places
     unfolding closed_by
     remembered e g = rw e (record { build_is = g; times_are = refl; places_are = refl })
 
@@ -63,12 +63,12 @@ module _ (depth from : ℕ) (b : ClockBuild) (times : List Float) (places : List
       first_taken z e = rw (in-64, held, eq-eqb b.samples 0 z) (record { build_is = e; times_are = refl; places_are = refl })
 
       module _ (some : b.samples ≡ 0 → ⊥) where
-        pub count_taken : (is_refused b.refusal || leb depth b.samples) ≡ true → r ≡ counted_with b b.anchor b.refusal b.refused_sample
+        pub count_taken : (is_some b.refusal || leb depth b.samples) ≡ true → r ≡ counted_with b b.anchor b.refusal b.refused_sample
             → Builds (take_sample depth from w s) r times places
         unfolding take_sample
         count_taken c e = rw (in-64, held, ne_eqb b.samples 0 some, c) (record { build_is = e; times_are = refl; places_are = refl })
 
-        pub closed_taken : (t : List Float) (p : List ℕ) → (is_refused b.refusal || leb depth b.samples) ≡ false
+        pub closed_taken : (t : List Float) (p : List ℕ) → (is_some b.refusal || leb depth b.samples) ≡ false
             → Builds (closed_by from w (close b.samples b.anchor s)) r t p → Builds (take_sample depth from w s) r t p
         unfolding take_sample
         closed_taken t p c e = rw (in-64, held, ne_eqb b.samples 0 some, c) e

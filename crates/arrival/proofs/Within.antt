@@ -1,5 +1,5 @@
 -- Under document 01's limits every interval of a built clock is within bounds, and so is the arrival time of every byte.
-use Rattle.std.proofs.Common.{◌≡◌, ℕ, suc, ◌+◌, ◌-◌, ◌*◌, ◌^◌, ◌≤◌, Bool, true, false, cond, ◌||◌, T, eqb, ltb, leb, List, [], ◌∷◌, ◌++◌, length, refl, ap, arith, ltb-false, leb-false, leb-true}
+use Rattle.std.proofs.Common.{◌≡◌, ℕ, suc, ◌+◌, ◌-◌, ◌*◌, ◌^◌, ◌≤◌, Bool, true, false, cond, ◌||◌, T, eqb, ltb, leb, List, [], ◌∷◌, ◌++◌, length, refl, ap, arith, ltb-false, leb-false, leb-true, Result, Ok, Err}
 use borrow.Author.Tests.{eqb-false}
 use lib.Ieee.{Float, fin, binary64, of_bits, le, lt, fits}
 use lib.Ieee.Fits.{add-fits, sub-fits, cond-fits}
@@ -44,9 +44,10 @@ later before B next i j h l = widen_at 0 (units_of next) (add_at binary64 unit t
 abbrev RateWithin : Float → Type 0
 RateWithin r = In (plain 1000) r (plain 1000000000)
 
-abbrev ClosedWithin : Sample → Closed → Type 0
-ClosedWithin s (Closed.Closes i a) = IntervalWithin i × AnchorWithin a × RateWithin a.rate × (a.position ≡ s.position)
-ClosedWithin s (Closed.Refuses r) = Unit {0}
+abbrev ClosedWithin : Sample → Result Closed Refusal → Type 0
+ClosedWithin s (Ok c) =
+    IntervalWithin c.interval × AnchorWithin c.anchor × RateWithin c.anchor.rate × (c.anchor.position ≡ s.position)
+ClosedWithin s (Err r) = Unit {0}
 
 interval_within : (a : Anchor) (r : Float) → AnchorWithin a → RateWithin r → IntervalWithin (interval_at a r)
 interval_within a r w i =
@@ -62,7 +63,7 @@ interval_within a r w i =
     }
 
 module _ (n : ℕ) (a : Anchor) (s : Sample) (w : AnchorWithin a) (order : a.position ≤ s.position) (end : s.position ≤ byte_limit) (raw : s.ticks ≤ raw_limit) where
-  marked_within : RateWithin a.rate → ClosedWithin s (Closed.Closes (interval_at a a.rate) (restarted a s))
+  marked_within : RateWithin a.rate → ClosedWithin s (Ok (record { interval = interval_at a a.rate; anchor = restarted a s }))
   marked_within r = (
     interval_within a a.rate w r,
     record {
@@ -76,7 +77,7 @@ module _ (n : ℕ) (a : Anchor) (s : Sample) (w : AnchorWithin a) (order : a.pos
   )
 
   stepped_within : (step_to a s ≡ 0 → ⊥) → (lt (rate_to a s) 1000f || lt 1000000000f (rate_to a s)) ≡ false
-      → ClosedWithin s (Closed.Closes (interval_at a (rate_to a s)) (stepped a s))
+      → ClosedWithin s (Ok (record { interval = interval_at a (rate_to a s); anchor = stepped a s }))
   stepped_within z t =
       let B = s.position - a.position in
       let d = step_to a s in
@@ -99,9 +100,9 @@ module _ (n : ℕ) (a : Anchor) (s : Sample) (w : AnchorWithin a) (order : a.pos
     where
       by : (m o : Bool) → eqb n 1 ≡ o → (z : Bool) → eqb (step_to a s) 0 ≡ z → (r : Bool) → (lt (rate_to a s) 1000f || lt 1000000000f (rate_to a s)) ≡ r
           → ClosedWithin s
-          (cond m (cond o (Closed.Refuses (Refusal.DiscontinuityBeforeRate n)) (Closed.Closes (interval_at a a.rate) (restarted a s)))
-          (cond z (Closed.Refuses (Refusal.RepeatedPcr n))
-          (cond r (Closed.Refuses (Refusal.RateOutsideLimits n)) (Closed.Closes (interval_at a (rate_to a s)) (stepped a s)))))
+          (cond m (cond o (Err (Refusal.DiscontinuityBeforeRate n)) (Ok (record { interval = interval_at a a.rate; anchor = restarted a s })))
+          (cond z (Err (Refusal.RepeatedPcr n))
+          (cond r (Err (Refusal.RateOutsideLimits n)) (Ok (record { interval = interval_at a (rate_to a s); anchor = stepped a s })))))
       by true true e z f r g = tt
       by true false e z f r g = marked_within (known (eqb-false n 1 e))
       by false o e true f r g = tt
@@ -121,10 +122,10 @@ in_order_end : (before : ℕ) (ss : List Sample) → InOrder before ss → befor
 in_order_end before [] o = o
 in_order_end before (s ∷ ss) o = omega (arith, o.0, in_order_end s.position ss o.2)
 
-behind_within : (s : Sample) (x : Closed) (rest : Anchor → Built) → ClosedWithin s x
+behind_within : (s : Sample) (x : Result Closed Refusal) (rest : Anchor → Built) → ClosedWithin s x
     → ((a : Anchor) → AnchorWithin a → RateWithin a.rate → a.position ≡ s.position → BuiltWithin (rest a)) → BuiltWithin (behind x rest)
-behind_within s (Closed.Closes i a) rest c again = then_within i (rest a) c.0 (again a c.1 c.2 c.3)
-behind_within s (Closed.Refuses r) rest c again = tt
+behind_within s (Ok c) rest w again = then_within c.interval (rest c.anchor) w.0 (again c.anchor w.1 w.2 w.3)
+behind_within s (Err r) rest w again = tt
 
 from_within : (ss : List Sample) (n : ℕ) (a : Anchor) → AnchorWithin a → ((n ≡ 1 → ⊥) → RateWithin a.rate) → InOrder a.position ss → BuiltWithin (build_from n a ss)
 unfolding build_from
@@ -221,9 +222,9 @@ then_counts : (n : ℕ) (i : RateInterval) (b : Built) → Counts n b → Counts
 then_counts n i (intervals is) e = ap suc e
 then_counts n i (refused r) e = tt
 
-behind_counts : (n : ℕ) (x : Closed) (rest : Anchor → Built) → ((a : Anchor) → Counts n (rest a)) → Counts (suc n) (behind x rest)
-behind_counts n (Closed.Closes i a) rest h = then_counts n i (rest a) (h a)
-behind_counts n (Closed.Refuses r) rest h = tt
+behind_counts : (n : ℕ) (x : Result Closed Refusal) (rest : Anchor → Built) → ((a : Anchor) → Counts n (rest a)) → Counts (suc n) (behind x rest)
+behind_counts n (Ok c) rest h = then_counts n c.interval (rest c.anchor) (h c.anchor)
+behind_counts n (Err r) rest h = tt
 
 from_counts : (ss : List Sample) (n : ℕ) (a : Anchor) → Counts (length ss) (build_from n a ss)
 unfolding build_from

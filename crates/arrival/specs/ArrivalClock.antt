@@ -1,5 +1,5 @@
 -- The arrival clock (H.222.0, 2.4.2.2; the Rust's `ArrivalClock::build`): intervals of constant rate from the PCR samples.
-use Rattle.std.specs.Prelude.{ℕ, ◌+◌, ◌-◌, ◌/◌, ◌%◌, cond, ◌||◌, List, [], ◌∷◌, length, pos, ◌==◌, nat_lt, Float}
+use Rattle.std.specs.Prelude.{ℕ, ◌+◌, ◌-◌, ◌/◌, ◌%◌, cond, ◌||◌, List, [], ◌∷◌, length, pos, ◌==◌, nat_lt, Float, Result, Ok, Err}
 use Rattle.std.specs.Float.{binary64}
 use Rattle.std.specs.Float.Ieee.{of_int, lt}
 use Rattle.ieee.specs.Binary64.{◌⊕◌, ◌⊖◌, ◌⊘◌, 0f, 1000f, 27000000f, 1000000000f}
@@ -50,13 +50,13 @@ abbrev pub restarted : Anchor → Sample → Anchor
 restarted a s = record { position = s.position; extended = s.ticks; time = a.time ⊕ bytes_to a s ⊘ a.rate; rate = a.rate }
 
 -- the sample number n behind the anchor, counted from 0: number 6, 7 or 9
-unfoldable pub close : ℕ → Anchor → Sample → Closed
+unfoldable pub close : ℕ → Anchor → Sample → Result Closed Refusal
 close n a s =
     cond s.marked
-    (cond (n == 1) (Closed.Refuses (Refusal.DiscontinuityBeforeRate n)) (Closed.Closes (interval_at a a.rate) (restarted a s)))
-    (cond (step_to a s == 0) (Closed.Refuses (Refusal.RepeatedPcr n))
-    (cond (lt (rate_to a s) 1000f || lt 1000000000f (rate_to a s)) (Closed.Refuses (Refusal.RateOutsideLimits n))
-    (Closed.Closes (interval_at a (rate_to a s)) (stepped a s))))
+    (cond (n == 1) (Err (Refusal.DiscontinuityBeforeRate n)) (Ok (record { interval = interval_at a a.rate; anchor = restarted a s })))
+    (cond (step_to a s == 0) (Err (Refusal.RepeatedPcr n))
+    (cond (lt (rate_to a s) 1000f || lt 1000000000f (rate_to a s)) (Err (Refusal.RateOutsideLimits n))
+    (Ok (record { interval = interval_at a (rate_to a s); anchor = stepped a s }))))
 
 pub data Built : Type 0 where
   intervals : List RateInterval → Built
@@ -66,9 +66,9 @@ abbrev pub and_then : RateInterval → Built → Built
 and_then i (intervals is) = intervals (i ∷ is)
 and_then i (refused r) = refused r
 
-abbrev pub behind : Closed → (Anchor → Built) → Built
-behind (Closed.Closes i a) rest = and_then i (rest a)
-behind (Closed.Refuses r) rest = refused r
+abbrev pub behind : Result Closed Refusal → (Anchor → Built) → Built
+behind (Ok c) rest = and_then c.interval (rest c.anchor)
+behind (Err r) rest = refused r
 
 -- the samples from number n on
 unfoldable pub build_from : ℕ → Anchor → List Sample → Built

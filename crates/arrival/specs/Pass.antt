@@ -1,6 +1,6 @@
 -- The clock built sample by sample in lent work, and packet by packet: interval i is stored when its last sample comes.
 -- A sample behind a refusal, or past the depth, is only counted.
-use Rattle.std.specs.Prelude.{◌≡◌, ℕ, ◌+◌, ◌-◌, ◌*◌, ◌^◌, Bool, true, false, cond, ◌&&◌, ◌||◌, List, [], ◌∷◌, ◌==◌, nat_le, nat_lt, slice_set, Float}
+use Rattle.std.specs.Prelude.{◌≡◌, ℕ, ◌+◌, ◌-◌, ◌*◌, ◌^◌, Bool, false, cond, ◌&&◌, ◌||◌, List, [], ◌∷◌, ◌==◌, nat_le, nat_lt, slice_set, Float, Option, Some, None, Result, Ok, Err, is_some}
 use Rattle.ieee.specs.Binary64.{0f}
 use Rattle.error.specs.declared.Refusal.{Refusal}
 use Rattle.packet.specs.declared.MaybeClockReference.{MaybeClockReference}
@@ -9,17 +9,16 @@ use Rattle.arrival.specs.declared.RateInterval.{RateInterval}
 use Rattle.arrival.specs.declared.Sample.{Sample}
 use Rattle.arrival.specs.declared.Anchor.{Anchor}
 use Rattle.arrival.specs.declared.Closed.{Closed}
-use Rattle.arrival.specs.declared.FirstRefusal.{FirstRefusal}
+use Rattle.arrival.specs.declared.ClockFault.{ClockFault}
 use Rattle.arrival.specs.declared.ClockBuild.{ClockBuild}
 use Rattle.arrival.specs.declared.ClockPass.{ClockPass}
-use Rattle.arrival.specs.declared.ClockAnswer.{ClockAnswer}
 use Rattle.arrival.specs.ArrivalClock.{Built, intervals, refused, anchor_at, close}
 use Rattle.arrival.specs.Samples.{Seen, field_on, seen_pcr, seen_in}
 use Rattle.arrival.specs.Work.{holds, intervals_in, never}
 
 -- before the first sample, and before the first packet
 abbrev pub no_sample : ClockBuild
-no_sample = record { samples = 0; anchor = record { position = 0; extended = 0; time = 0f; rate = 0f }; refusal = FirstRefusal.Absent; refused_sample = 0 }
+no_sample = record { samples = 0; anchor = record { position = 0; extended = 0; time = 0f; rate = 0f }; refusal = None; refused_sample = 0 }
 
 abbrev pub no_packet : ClockPass
 no_packet = record { start = 0; pending_discontinuity = false; build = no_sample }
@@ -39,41 +38,35 @@ unfoldable pub store_places : List ℕ → ℕ → RateInterval → List ℕ
 store_places places k i = slice_set (slice_set places (2 * k) i.start_pos) (2 * k + 1) i.pcr_ref_90k
 
 -- one sample more
-abbrev pub counted_with : ClockBuild → Anchor → FirstRefusal → ℕ → ClockBuild
+abbrev pub counted_with : ClockBuild → Anchor → Option ClockFault → ℕ → ClockBuild
 counted_with b a refusal sample = record { samples = b.samples + 1; anchor = a; refusal = refusal; refused_sample = sample }
 
 abbrev pub counted : Building → Anchor → Building
 counted w a = record { build = counted_with w.build a w.build.refusal w.build.refused_sample; times = w.times; places = w.places }
 
 -- a refusal without its sample; `close` gives only the first three
-abbrev pub first_refusal : Refusal → FirstRefusal
-first_refusal (Refusal.DiscontinuityBeforeRate sample) = FirstRefusal.DiscontinuityBeforeRate
-first_refusal (Refusal.RepeatedPcr sample) = FirstRefusal.RepeatedPcr
-first_refusal (Refusal.RateOutsideLimits sample) = FirstRefusal.RateOutsideLimits
-first_refusal Refusal.OutsideLimits = FirstRefusal.RateOutsideLimits
-first_refusal Refusal.WorkTooShort = FirstRefusal.RateOutsideLimits
-first_refusal Refusal.RecordingTooLong = FirstRefusal.RateOutsideLimits
-first_refusal Refusal.NoPacketLayout = FirstRefusal.RateOutsideLimits
-first_refusal Refusal.TooFewPcrs = FirstRefusal.RateOutsideLimits
-first_refusal (Refusal.ClockFull depth) = FirstRefusal.RateOutsideLimits
-first_refusal (Refusal.QueueFull packet pid) = FirstRefusal.RateOutsideLimits
+abbrev pub first_refusal : Refusal → ClockFault
+first_refusal (Refusal.DiscontinuityBeforeRate sample) = ClockFault.DiscontinuityBeforeRate
+first_refusal (Refusal.RepeatedPcr sample) = ClockFault.RepeatedPcr
+first_refusal (Refusal.RateOutsideLimits sample) = ClockFault.RateOutsideLimits
+first_refusal Refusal.OutsideLimits = ClockFault.RateOutsideLimits
+first_refusal Refusal.WorkTooShort = ClockFault.RateOutsideLimits
+first_refusal Refusal.RecordingTooLong = ClockFault.RateOutsideLimits
+first_refusal Refusal.NoPacketLayout = ClockFault.RateOutsideLimits
+first_refusal Refusal.TooFewPcrs = ClockFault.RateOutsideLimits
+first_refusal (Refusal.ClockFull depth) = ClockFault.RateOutsideLimits
+first_refusal (Refusal.QueueFull packet pid) = ClockFault.RateOutsideLimits
 
 -- by what the sample gave: the interval is stored, or the refusal and the sample's number are kept
-unfoldable pub closed_by : ℕ → Building → Closed → Building
-closed_by from w (Closed.Closes i a) =
+unfoldable pub closed_by : ℕ → Building → Result Closed Refusal → Building
+closed_by from w (Ok c) =
     record {
-      build = counted_with w.build a w.build.refusal w.build.refused_sample;
-      times = store_times w.times from (w.build.samples - 1) i;
-      places = store_places w.places (w.build.samples - 1) i;
+      build = counted_with w.build c.anchor w.build.refusal w.build.refused_sample;
+      times = store_times w.times from (w.build.samples - 1) c.interval;
+      places = store_places w.places (w.build.samples - 1) c.interval;
     }
-closed_by from w (Closed.Refuses r) =
-    record { build = counted_with w.build w.build.anchor (first_refusal r) w.build.samples; times = w.times; places = w.places }
-
-abbrev pub is_refused : FirstRefusal → Bool
-is_refused FirstRefusal.Absent = false
-is_refused FirstRefusal.DiscontinuityBeforeRate = true
-is_refused FirstRefusal.RepeatedPcr = true
-is_refused FirstRefusal.RateOutsideLimits = true
+closed_by from w (Err r) =
+    record { build = counted_with w.build w.build.anchor (Some (first_refusal r)) w.build.samples; times = w.times; places = w.places }
 
 -- the numbers stay within 64 bits
 unfoldable pub in_range : ClockBuild → Sample → Bool
@@ -84,7 +77,7 @@ unfoldable pub take_sample : ℕ → ℕ → Building → Sample → Building
 take_sample depth from w s =
     cond (in_range w.build s && holds depth w.times from w.places)
     (cond (w.build.samples == 0) (counted w (anchor_at s))
-    (cond (is_refused w.build.refusal || nat_le depth w.build.samples) (counted w w.build.anchor)
+    (cond (is_some w.build.refusal || nat_le depth w.build.samples) (counted w w.build.anchor)
     (closed_by from w (close w.build.samples w.build.anchor s))))
     w
 
@@ -93,22 +86,25 @@ take_samples depth from w [] = w
 take_samples depth from w (s ∷ ss) = take_samples depth from (take_sample depth from w s) ss
 
 -- the answer at the end: number 8 before 5 before the first of 6, 7 and 9; else how many intervals there are
-abbrev pub unless_refused : FirstRefusal → ℕ → ℕ → ClockAnswer
-unless_refused FirstRefusal.Absent sample n = ClockAnswer.Intervals n
-unless_refused FirstRefusal.DiscontinuityBeforeRate sample n = ClockAnswer.Refused (Refusal.DiscontinuityBeforeRate sample)
-unless_refused FirstRefusal.RepeatedPcr sample n = ClockAnswer.Refused (Refusal.RepeatedPcr sample)
-unless_refused FirstRefusal.RateOutsideLimits sample n = ClockAnswer.Refused (Refusal.RateOutsideLimits sample)
+abbrev pub refusal_at : ClockFault → ℕ → Refusal
+refusal_at ClockFault.DiscontinuityBeforeRate sample = Refusal.DiscontinuityBeforeRate sample
+refusal_at ClockFault.RepeatedPcr sample = Refusal.RepeatedPcr sample
+refusal_at ClockFault.RateOutsideLimits sample = Refusal.RateOutsideLimits sample
 
-unfoldable pub answer_of : ℕ → ClockBuild → ClockAnswer
+abbrev pub unless_refused : Option ClockFault → ℕ → ℕ → Result ℕ Refusal
+unless_refused None sample n = Ok n
+unless_refused (Some fault) sample n = Err (refusal_at fault sample)
+
+unfoldable pub answer_of : ℕ → ClockBuild → Result ℕ Refusal
 answer_of depth b =
-    cond (nat_lt depth b.samples) (ClockAnswer.Refused (Refusal.ClockFull depth))
-    (cond (nat_lt b.samples 2) (ClockAnswer.Refused Refusal.TooFewPcrs)
+    cond (nat_lt depth b.samples) (Err (Refusal.ClockFull depth))
+    (cond (nat_lt b.samples 2) (Err Refusal.TooFewPcrs)
     (unless_refused b.refusal b.refused_sample (b.samples - 1)))
 
 -- what a building has come to: the intervals that stand in the work, or a refusal
-abbrev pub built_by : ClockAnswer → ℕ → Building → Built
-built_by (ClockAnswer.Intervals n) from w = intervals (intervals_in w.times from w.places 0 n)
-built_by (ClockAnswer.Refused r) from w = refused r
+abbrev pub built_by : Result ℕ Refusal → ℕ → Building → Built
+built_by (Ok n) from w = intervals (intervals_in w.times from w.places 0 n)
+built_by (Err r) from w = refused r
 
 abbrev pub built_in : ℕ → ℕ → Building → Built
 built_in depth from w = built_by (answer_of depth w.build) from w

@@ -8,7 +8,7 @@ ghost use Rattle.arrival.specs.ArrivalClock.{seconds, anchor_at, step_to, interv
 ghost use Rattle.arrival.specs.Times.{no_interval, time_of, decode_time_or_zero};
 ghost use Rattle.arrival.specs.Samples.{ticks_of};
 ghost use Rattle.arrival.specs.Work.{holds, interval_in, nowhere_at, cursor_at, advance, start_of_arrival, next_arrival};
-ghost use Rattle.arrival.specs.Pass.{no_sample, store_times, store_places, first_refusal, is_refused, in_range, counted_with, closed_by, take_sample, Builds, answer_of, no_packet, other_packet, pass_field, pass_packet, Passes};
+ghost use Rattle.arrival.specs.Pass.{no_sample, store_times, store_places, first_refusal, refusal_at, in_range, closed_by, take_sample, Builds, answer_of, no_packet, other_packet, pass_field, pass_packet, Passes};
 
 use clock::{Extended, PCR_MODULUS_27MHZ};
 use error::Refusal;
@@ -31,17 +31,16 @@ pub struct Anchor {
     pub rate: f64,
 }
 
-// What a sample gives: the interval that ends at it and the next anchor, or a refusal.
+// What a sample gives: the interval that ends at it, and the next anchor.
 #[derive(Clone, Copy)]
-pub enum Closed {
-    Closes(RateInterval, Anchor),
-    Refuses(Refusal),
+pub struct Closed {
+    pub interval: RateInterval,
+    pub anchor: Anchor,
 }
 
-// The first refusal, without its sample: with it the enum's padding would be copied for each sample, which costs 4 ns.
+// A refusal without its sample: with it the padding of `Refusal` would be copied for each sample, which costs 4 ns.
 #[derive(Clone, Copy)]
-pub enum FirstRefusal {
-    Absent,
+pub enum ClockFault {
     DiscontinuityBeforeRate,
     RepeatedPcr,
     RateOutsideLimits,
@@ -52,7 +51,7 @@ pub enum FirstRefusal {
 pub struct ClockBuild {
     pub samples: usize,
     pub anchor: Anchor,
-    pub refusal: FirstRefusal,
+    pub refusal: Option<ClockFault>,
     // 0 where there is none.
     pub refused_sample: u64,
 }
@@ -63,12 +62,6 @@ pub struct ClockPass {
     pub start: u64,
     pub pending_discontinuity: bool,
     pub build: ClockBuild,
-}
-
-#[derive(Clone, Copy)]
-pub enum ClockAnswer {
-    Intervals(usize),
-    Refused(Refusal),
 }
 
 // A stretch of constant transport rate.
@@ -104,19 +97,7 @@ const NEVER: u64 = u64::MAX;
 fn holds_intervals(n: usize, times: &[f64], from: usize, places: &[u64]) -> bool
     ensures { result ≡ holds n times.now from places.now }
 {
-    if times.len() < from {
-        return false;
-    }
-    (n <= (times.len() - from) / 3) & (n <= places.len() / 2)
-}
-
-fn saturating_sub(a: u64, b: u64) -> u64
-    ensures { result ≡ a - b }
-{
-    if a < b {
-        return 0;
-    }
-    a - b
+    from <= times.len() && n <= (times.len() - from) / 3 && n <= places.len() / 2
 }
 
 fn in_seconds(ticks: u64) -> f64
@@ -128,8 +109,7 @@ fn in_seconds(ticks: u64) -> f64
 fn ticks_of(reference: ClockReference) -> u64
     ensures { result ≡ ticks_of reference }
 {
-    let extension = (reference.extension % 512) as u64;
-    reference.base % 0x2_0000_0000 * 300 + extension
+    reference.base % 0x2_0000_0000 * 300 + u64::from(reference.extension % 512)
 }
 
 impl Anchor {
@@ -163,43 +143,43 @@ impl Anchor {
         }
     }
 
-    fn close(self, n: u64, sample: Sample) -> Closed
+    fn close(self, n: u64, sample: Sample) -> Result<Closed, Refusal>
         requires { (sample.ticks < 2 ^ 63) × (self.extended < 2 ^ 63) }
         ensures { result ≡ close n self sample }
     {
-        let bytes = ieee::as_float(saturating_sub(sample.position, self.position));
+        let bytes = ieee::as_float(sample.position.saturating_sub(self.position));
         if sample.marked {
             if n == 1 {
-                return Closed::Refuses(Refusal::DiscontinuityBeforeRate { sample: n });
+                return Err(Refusal::DiscontinuityBeforeRate { sample: n });
             }
-            return Closed::Closes(
-                self.interval(self.rate),
-                Anchor {
+            return Ok(Closed {
+                interval: self.interval(self.rate),
+                anchor: Anchor {
                     position: sample.position,
                     extended: sample.ticks,
                     time: self.time + bytes / self.rate,
                     rate: self.rate,
                 },
-            );
+            });
         }
         let step = self.step_to(sample);
         if step == 0 {
-            return Closed::Refuses(Refusal::RepeatedPcr { sample: n });
+            return Err(Refusal::RepeatedPcr { sample: n });
         }
         let dt = in_seconds(step);
         let rate = bytes / dt;
         if (rate < 1000.0) | (rate > 1000000000.0) {
-            return Closed::Refuses(Refusal::RateOutsideLimits { sample: n });
+            return Err(Refusal::RateOutsideLimits { sample: n });
         }
-        Closed::Closes(
-            self.interval(rate),
-            Anchor {
+        Ok(Closed {
+            interval: self.interval(rate),
+            anchor: Anchor {
                 position: sample.position,
                 extended: self.extended + step,
                 time: self.time + dt,
                 rate,
             },
-        )
+        })
     }
 }
 
@@ -222,26 +202,29 @@ fn store_interval(
     places[p + 1] = interval.pcr_ref_90k;
 }
 
-impl FirstRefusal {
+impl From<Refusal> for ClockFault {
+    ghost use Rattle.arrival.specs.Pass.{first_refusal};
+
+    ghost from_gives = { λ refusal fault. fault ≡ first_refusal refusal };
+
     // `Anchor::close` gives no refusal but these three kinds.
-    fn of(refusal: Refusal) -> FirstRefusal
-        ensures { result ≡ first_refusal refusal }
-    {
+    fn from(refusal: Refusal) -> ClockFault {
         match refusal {
-            Refusal::DiscontinuityBeforeRate { sample: _ } => FirstRefusal::DiscontinuityBeforeRate,
-            Refusal::RepeatedPcr { sample: _ } => FirstRefusal::RepeatedPcr,
-            _ => FirstRefusal::RateOutsideLimits,
+            Refusal::DiscontinuityBeforeRate { sample: _ } => ClockFault::DiscontinuityBeforeRate,
+            Refusal::RepeatedPcr { sample: _ } => ClockFault::RepeatedPcr,
+            _ => ClockFault::RateOutsideLimits,
         }
     }
+}
 
-    fn is_refused(self) -> bool
-        ensures { result ≡ is_refused self }
+impl ClockFault {
+    fn at(self, sample: u64) -> Refusal
+        ensures { result ≡ refusal_at self sample }
     {
         match self {
-            FirstRefusal::Absent => false,
-            FirstRefusal::DiscontinuityBeforeRate => true,
-            FirstRefusal::RepeatedPcr => true,
-            FirstRefusal::RateOutsideLimits => true,
+            ClockFault::DiscontinuityBeforeRate => Refusal::DiscontinuityBeforeRate { sample },
+            ClockFault::RepeatedPcr => Refusal::RepeatedPcr { sample },
+            ClockFault::RateOutsideLimits => Refusal::RateOutsideLimits { sample },
         }
     }
 }
@@ -259,7 +242,7 @@ impl ClockBuild {
                 time: 0.0,
                 rate: 0.0,
             },
-            refusal: FirstRefusal::Absent,
+            refusal: None,
             refused_sample: 0,
         }
     }
@@ -267,28 +250,14 @@ impl ClockBuild {
     fn in_range(self, sample: Sample) -> bool
         ensures { result ≡ in_range self sample }
     {
-        let anchor = self.anchor;
         (sample.ticks < 0x8000_0000_0000_0000)
             & (self.samples < 0x8000_0000_0000_0000)
-            & (anchor.extended < 0x8000_0000_0000_0000)
-    }
-
-    // One sample more.
-    fn counted(self, anchor: Anchor, refusal: FirstRefusal, refused_sample: u64) -> ClockBuild
-        requires { self.samples < 2 ^ 63 }
-        ensures { result ≡ counted_with self anchor refusal refused_sample }
-    {
-        ClockBuild {
-            samples: self.samples + 1,
-            anchor,
-            refusal,
-            refused_sample,
-        }
+            & (self.anchor.extended < 0x8000_0000_0000_0000)
     }
 
     fn closed(
         self,
-        closed: Closed,
+        closed: Result<Closed, Refusal>,
         times: &mut [f64],
         from: usize,
         places: &mut [u64],
@@ -298,16 +267,20 @@ impl ClockBuild {
         ensures { Builds (closed_by from (record { build = self; times = times.old; places = places.old }) closed) result times.new places.new }
     {
         match closed {
-            Closed::Closes(interval, anchor) => {
-                let refusal = self.refusal;
+            Ok(Closed { interval, anchor }) => {
                 store_interval(interval, times, from, places, self.samples - 1);
-                self.counted(anchor, refusal, self.refused_sample)
+                ClockBuild {
+                    samples: self.samples + 1,
+                    anchor,
+                    ..self
+                }
             }
-            Closed::Refuses(number) => {
-                let anchor = self.anchor;
-                let refusal = FirstRefusal::of(number);
-                self.counted(anchor, refusal, self.samples as u64)
-            }
+            Err(refusal) => ClockBuild {
+                samples: self.samples + 1,
+                refusal: Some(ClockFault::from(refusal)),
+                refused_sample: self.samples as u64,
+                ..self
+            },
         }
     }
 
@@ -328,43 +301,38 @@ impl ClockBuild {
         if !holds_intervals(depth, times, from, places) {
             return self;
         }
-        let anchor = self.anchor;
-        let refusal = self.refusal;
-        let samples = self.samples;
-        if samples == 0 {
-            let first = Anchor::first(sample);
-            return self.counted(first, refusal, self.refused_sample);
+        if self.samples == 0 {
+            return ClockBuild {
+                samples: 1,
+                anchor: Anchor::first(sample),
+                ..self
+            };
         }
-        if refusal.is_refused() | (depth <= samples) {
-            return self.counted(anchor, refusal, self.refused_sample);
+        if self.refusal.is_some() | (depth <= self.samples) {
+            return ClockBuild {
+                samples: self.samples + 1,
+                ..self
+            };
         }
-        let closed = anchor.close(samples as u64, sample);
+        let closed = self.anchor.close(self.samples as u64, sample);
         self.closed(closed, times, from, places)
     }
 
     // Ruled out: number 9 where there are more samples than the depth; the count of samples for that of intervals.
-    pub fn answer(self, depth: usize) -> ClockAnswer
+    pub fn answer(self, depth: usize) -> Result<usize, Refusal>
         ensures { result ≡ answer_of depth self }
     {
-        let refusal = self.refusal;
-        let sample = self.refused_sample;
         if depth < self.samples {
-            return ClockAnswer::Refused(Refusal::ClockFull {
+            return Err(Refusal::ClockFull {
                 depth: depth as u64,
             });
         }
         if self.samples < 2 {
-            return ClockAnswer::Refused(Refusal::TooFewPcrs);
+            return Err(Refusal::TooFewPcrs);
         }
-        match refusal {
-            FirstRefusal::Absent => ClockAnswer::Intervals(self.samples - 1),
-            FirstRefusal::DiscontinuityBeforeRate => {
-                ClockAnswer::Refused(Refusal::DiscontinuityBeforeRate { sample })
-            }
-            FirstRefusal::RepeatedPcr => ClockAnswer::Refused(Refusal::RepeatedPcr { sample }),
-            FirstRefusal::RateOutsideLimits => {
-                ClockAnswer::Refused(Refusal::RateOutsideLimits { sample })
-            }
+        match self.refusal {
+            None => Ok(self.samples - 1),
+            Some(fault) => Err(fault.at(self.refused_sample)),
         }
     }
 }
@@ -388,9 +356,10 @@ impl ClockPass {
         if NEVER - 188 < self.start {
             return self;
         }
-        let mut next = self;
-        next.start = self.start + 188;
-        next
+        ClockPass {
+            start: self.start + 188,
+            ..self
+        }
     }
 
     // A packet on the PCR PID, by its adaptation field. Ruled out: a mark that does not reach the PCR of its own packet; one that reaches the second PCR.
@@ -408,25 +377,24 @@ impl ClockPass {
         if NEVER - 188 < self.start {
             return self;
         }
-        let start = self.start;
-        let build = self.build;
+        let start = self.start + 188;
         let marked = self.pending_discontinuity | discontinuity_indicator;
         match pcr {
             MaybeClockReference::Absent => ClockPass {
-                start: start + 188,
+                start,
                 pending_discontinuity: marked,
-                build,
+                ..self
             },
             MaybeClockReference::Present(reference) => {
                 let sample = Sample {
-                    position: start + 10,
+                    position: self.start + 10,
                     ticks: ticks_of(reference),
                     marked,
                 };
                 ClockPass {
-                    start: start + 188,
+                    start,
                     pending_discontinuity: false,
-                    build: build.sample(sample, times, from, places, depth),
+                    build: self.build.sample(sample, times, from, places, depth),
                 }
             }
         }
@@ -449,13 +417,17 @@ impl ClockPass {
                 if packet.pid != pcr_pid {
                     return self.other();
                 }
-                let field = packet.adaptation_field;
-                match field {
+                match packet.adaptation_field {
                     MaybeAdaptationField::Absent => self.other(),
-                    MaybeAdaptationField::Present(present) => {
-                        let pcr = present.pcr;
-                        let mark = present.discontinuity_indicator;
-                        self.field(mark, pcr, times, from, places, depth)
+                    MaybeAdaptationField::Present(field) => {
+                        self.field(
+                            field.discontinuity_indicator,
+                            field.pcr,
+                            times,
+                            from,
+                            places,
+                            depth,
+                        )
                     }
                 }
             }
@@ -507,8 +479,7 @@ impl RateInterval {
     pub fn decode_time(self, raw_90k: u64) -> f64
         ensures { result ≡ decode_time_or_zero self raw_90k }
     {
-        let extended = clock::extend_near(raw_90k, self.pcr_ref_90k);
-        match extended {
+        match clock::extend_near(raw_90k, self.pcr_ref_90k) {
             Extended::Timestamp(ticks) => {
                 std::num::nearest_u64_to_f64(ticks) / 90000.0 + self.pts_offset
             }
@@ -540,16 +511,13 @@ impl Cursor {
         }
         let interval = RateInterval::read(times, from, places, index);
         let next = index + 1;
-        if next < count {
-            return Cursor {
-                index,
-                until: places[2 * next],
-                interval,
-            };
-        }
         Cursor {
             index,
-            until: NEVER,
+            until: if next < count {
+                places[2 * next]
+            } else {
+                NEVER
+            },
             interval,
         }
     }
@@ -566,10 +534,7 @@ impl Cursor {
         ensures { result ≡ advance times.now from places.now count self pos }
     {
         let mut next = self;
-        if count == 0 {
-            return next;
-        }
-        let last = count - 1;
+        let last = count.saturating_sub(1);
         while (next.index < last) & (next.until <= pos) {
             next = Cursor::at(times, from, places, count, next.index + 1);
         }
@@ -584,8 +549,7 @@ impl PacketArrival {
     {
         let first = Cursor::at(times, from, places, count, 0);
         let cursor = first.advance(times, from, places, count, 0);
-        let interval = cursor.interval;
-        let t = interval.time_of(0);
+        let t = cursor.interval.time_of(0);
         PacketArrival {
             cursor,
             end: 0,
@@ -602,14 +566,12 @@ impl PacketArrival {
             return self;
         }
         let end = self.end + 188;
-        let old = self.cursor;
-        let cursor = old.advance(times, from, places, count, end);
-        let interval = cursor.interval;
+        let cursor = self.cursor.advance(times, from, places, count, end);
         PacketArrival {
             cursor,
             end,
             t0: self.t1,
-            t1: interval.time_of(end),
+            t1: cursor.interval.time_of(end),
         }
     }
 }

@@ -38,6 +38,6 @@ pub returns-then-next-count : goal.returns-then-next-count
 returns-then-next-count c =
     sym (cursor_inner _ _ _ _ _ (sym c.holds_intervals.ensures ∙ c.if-not-holds_intervals.false) c.if-next-count.true ∙ rw (← c.read-interval.ensures))
 
-pub returns : goal.returns
-returns c =
+pub returns-else-next-count : goal.returns-else-next-count
+returns-else-next-count c =
     sym (cursor_last _ _ _ _ _ (sym c.holds_intervals.ensures ∙ c.if-not-holds_intervals.false) c.if-count-index.false c.if-next-count.false ∙ rw (← c.read-interval.ensures))
