@@ -3,7 +3,8 @@
 use Rattle.std.proofs.Common.{◌≡◌, ℕ, zero, suc, ◌+◌, ◌*◌, ◌^◌, ◌<◌, ◌≤◌, true, List, length, sym, refl, ap, ◌∙◌, arith, Result, Ok, Err}
 use lib.Ieee.{Float}
 use Rattle.error.specs.declared.Refusal.{Refusal}
-use Rattle.packet.specs.declared.Parse.{Parse}
+use Rattle.packet.specs.declared.TsPacket.{TsPacket}
+use Rattle.packet.specs.declared.TsError.{TsError}
 use Rattle.arrival.specs.ArrivalClock.{Built, intervals, refused, build}
 use Rattle.arrival.specs.Samples.{samples_of}
 use Rattle.arrival.specs.Work.{holds, intervals_in}
@@ -19,7 +20,7 @@ unfolding intervals_in
 intervals_length times from places i zero = refl
 intervals_length times from places i (suc n) = ap suc (intervals_length times from places (i + 1) n)
 
-module _ (pcrPid depth from : ℕ) (times : List Float) (places : List ℕ) (ps : List Parse)
+module _ (pcrPid depth from : ℕ) (times : List Float) (places : List ℕ) (ps : List (Result TsPacket TsError))
     (shallow : depth ≤ 2 ^ 20) (room : holds depth times from places ≡ true) (short : 188 * length ps < 2 ^ 63) where
   abbrev pub passed : Passing
   passed = pass_packets pcrPid depth from (record { pass = no_packet; times = times; places = places }) ps

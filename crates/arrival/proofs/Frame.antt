@@ -3,7 +3,8 @@ use Rattle.std.proofs.Common.{◌≡◌, ℕ, ◌+◌, ◌-◌, ◌*◌, ◌<◌
 use lib.Seq.{take-set-le}
 use lib.Ieee.{Float}
 use Rattle.error.specs.declared.Refusal.{Refusal}
-use Rattle.packet.specs.declared.Parse.{Parse}
+use Rattle.packet.specs.declared.TsPacket.{TsPacket}
+use Rattle.packet.specs.declared.TsError.{TsError}
 use Rattle.arrival.specs.declared.Sample.{Sample}
 use Rattle.arrival.specs.declared.Closed.{Closed}
 use Rattle.arrival.specs.ArrivalClock.{anchor_at, close}
@@ -91,7 +92,7 @@ module _ (depth from : ℕ) where
       by true = samples_keep seen.sample (building_of w)
       by false = keeps_all w.times w.places
 
-  pub packets_keep : (pcrPid : ℕ) (ps : List Parse) (w : Passing)
+  pub packets_keep : (pcrPid : ℕ) (ps : List (Result TsPacket TsError)) (w : Passing)
       → Keeps w.times w.places (pass_packets pcrPid depth from w ps).times (pass_packets pcrPid depth from w ps).places
   unfolding pass_packets pass_packet
   packets_keep pcrPid [] w = keeps_all w.times w.places

@@ -1,14 +1,12 @@
 -- A packet passed, by the tests that lead to each case.
-use Rattle.std.proofs.Common.{◌≡◌, ℕ, ◌+◌, ◌-◌, ◌<◌, ◌≤◌, Bool, true, false, cond, ◌||◌, leb, List, [], refl, le-ltb, lt-ltb, eq-eqb, ne_eqb, le-leb, Option, Err}
+use Rattle.std.proofs.Common.{◌≡◌, ℕ, ◌+◌, ◌-◌, ◌<◌, ◌≤◌, Bool, true, false, cond, ◌||◌, leb, List, [], refl, le-ltb, lt-ltb, eq-eqb, ne_eqb, le-leb, Option, Err, Some, None, Result, Ok}
 use borrow.Author.Tests.{lt-leb}
 use lib.Ieee.{Float}
 use Rattle.error.specs.declared.Refusal.{Refusal}
 use Rattle.packet.specs.declared.ClockReference.{ClockReference}
-use Rattle.packet.specs.declared.MaybeClockReference.{MaybeClockReference}
 use Rattle.packet.specs.declared.AdaptationField.{AdaptationField}
-use Rattle.packet.specs.declared.MaybeAdaptationField.{MaybeAdaptationField}
 use Rattle.packet.specs.declared.TsPacket.{TsPacket}
-use Rattle.packet.specs.declared.Parse.{Parse}
+use Rattle.packet.specs.declared.TsError.{TsError}
 use Rattle.arrival.specs.declared.ClockBuild.{ClockBuild}
 use Rattle.arrival.specs.declared.ClockPass.{ClockPass}
 use Rattle.arrival.specs.declared.ClockFault.{ClockFault}
@@ -32,21 +30,17 @@ module _ (depth : ℕ) (b : ClockBuild) where
     answer_first h e = rw (le-ltb depth b.samples within, le-ltb b.samples 2 h, e)
 
 -- ---- which field
-module _ (pcrPid : ℕ) {p : Parse} where
-  pub field_truncated : {have need : ℕ} → p ≡ Parse.Truncated have need → field_on pcrPid p ≡ MaybeAdaptationField.Absent
+module _ (pcrPid : ℕ) {p : Result TsPacket TsError} where
+  pub field_unparsed : {why : TsError} → p ≡ Err why → field_on pcrPid p ≡ None
   unfolding field_on
-  field_truncated e = rw e
+  field_unparsed e = rw e
 
-  pub field_bad_sync : {byte : ℕ} → p ≡ Parse.BadSyncByte byte → field_on pcrPid p ≡ MaybeAdaptationField.Absent
-  unfolding field_on
-  field_bad_sync e = rw e
-
-  module _ {h : TsPacket} (e : p ≡ Parse.Packet h) where
-    pub field_elsewhere : (h.pid ≡ pcrPid → ⊥) → field_on pcrPid p ≡ MaybeAdaptationField.Absent
+  module _ {h : TsPacket} (e : p ≡ Ok h) where
+    pub field_elsewhere : (h.pid ≡ pcrPid → ⊥) → field_on pcrPid p ≡ None
     unfolding field_on
     field_elsewhere n = rw (e, ne_eqb h.pid pcrPid n)
 
-    pub field_here : {f : MaybeAdaptationField} → h.pid ≡ pcrPid → h.adaptation_field ≡ f → field_on pcrPid p ≡ f
+    pub field_here : {f : Option AdaptationField} → h.pid ≡ pcrPid → h.adaptation_field ≡ f → field_on pcrPid p ≡ f
     unfolding field_on
     field_here g k = rw (e, eq-eqb h.pid pcrPid g, k)
 
@@ -67,31 +61,31 @@ module _ (depth from : ℕ) (b : ClockPass) (times : List Float) (places : List 
       by false = refl
 
   -- one that does not speak of the clock
-  pub other_passes : (pcrPid : ℕ) (p : Parse) (r : ClockPass) → field_on pcrPid p ≡ MaybeAdaptationField.Absent → r ≡ other_packet b
+  pub other_passes : (pcrPid : ℕ) (p : Result TsPacket TsError) (r : ClockPass) → field_on pcrPid p ≡ None → r ≡ other_packet b
       → Passes (pass_packet pcrPid depth from w p) r times places
   unfolding pass_packet seen_in
   other_passes pcrPid p r e g = rw (e, other_passed _ refl) (record { pass_is = g; times_are = refl; places_are = refl })
 
   -- one on the PCR PID with a field
-  pub field_passes : (pcrPid : ℕ) (p : Parse) (r : ClockPass) (t : List Float) (q : List ℕ) {f : AdaptationField}
-      → field_on pcrPid p ≡ MaybeAdaptationField.Present f
+  pub field_passes : (pcrPid : ℕ) (p : Result TsPacket TsError) (r : ClockPass) (t : List Float) (q : List ℕ) {f : AdaptationField}
+      → field_on pcrPid p ≡ Some f
       → Passes (pass_field depth from w f.discontinuity_indicator f.pcr) r t q → Passes (pass_packet pcrPid depth from w p) r t q
   unfolding pass_packet seen_in
   field_passes pcrPid p r t q e g = rw e g
 
-  module _ (discontinuity : Bool) (pcr : MaybeClockReference) where
+  module _ (discontinuity : Bool) (pcr : Option ClockReference) where
     pub past_the_end : never - 188 < b.start → Passes (pass_field depth from w discontinuity pcr) b times places
     unfolding pass_seen
     past_the_end h = rw (lt-leb b.start (never - 188) h) (record { pass_is = refl; times_are = refl; places_are = refl })
 
     module _ (room : b.start ≤ never - 188) where
-      pub no_pcr : pcr ≡ MaybeClockReference.Absent
+      pub no_pcr : pcr ≡ None
           → Passes (pass_field depth from w discontinuity pcr)
           (record { start = b.start + 188; pending_discontinuity = b.pending_discontinuity || discontinuity; build = b.build }) times places
       unfolding pass_seen take_samples seen_pcr
       no_pcr e = rw (e, le-leb b.start (never - 188) room) (record { pass_is = refl; times_are = refl; places_are = refl })
 
-      pub a_pcr : (r : ClockBuild) (t : List Float) (q : List ℕ) {c : ClockReference} → pcr ≡ MaybeClockReference.Present c
+      pub a_pcr : (r : ClockBuild) (t : List Float) (q : List ℕ) {c : ClockReference} → pcr ≡ Some c
           → Builds (take_sample depth from (record { build = b.build; times = times; places = places })
           (record { position = b.start + 10; ticks = ticks_of c; marked = b.pending_discontinuity || discontinuity })) r t q
           → Passes (pass_field depth from w discontinuity pcr) (record { start = b.start + 188; pending_discontinuity = false; build = r }) t q

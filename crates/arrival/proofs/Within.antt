@@ -1,5 +1,5 @@
 -- Under document 01's limits every interval of a built clock is within bounds, and so is the arrival time of every byte.
-use Rattle.std.proofs.Common.{◌≡◌, ℕ, suc, ◌+◌, ◌-◌, ◌*◌, ◌^◌, ◌≤◌, Bool, true, false, cond, ◌||◌, T, eqb, ltb, leb, List, [], ◌∷◌, ◌++◌, length, refl, ap, arith, ltb-false, leb-false, leb-true, Result, Ok, Err}
+use Rattle.std.proofs.Common.{◌≡◌, ℕ, suc, ◌+◌, ◌-◌, ◌*◌, ◌^◌, ◌≤◌, Bool, true, false, cond, ◌||◌, T, eqb, ltb, leb, List, [], ◌∷◌, ◌++◌, length, refl, ap, arith, ltb-false, leb-false, leb-true, Result, Ok, Err, Option, Some, None}
 use borrow.Author.Tests.{eqb-false}
 use lib.Ieee.{Float, fin, binary64, of_bits, le, lt, fits}
 use lib.Ieee.Fits.{add-fits, sub-fits, cond-fits}
@@ -10,9 +10,10 @@ use Rattle.ieee.proofs.Growth.{add_at, sub_at, widen_at}
 use Rattle.ieee.proofs.Quotient.{div_paced}
 use Rattle.ieee.proofs.Whole.{is_in}
 use Rattle.error.specs.declared.Refusal.{Refusal}
-use Rattle.packet.specs.declared.MaybeClockReference.{MaybeClockReference}
-use Rattle.packet.specs.declared.MaybeAdaptationField.{MaybeAdaptationField}
-use Rattle.packet.specs.declared.Parse.{Parse}
+use Rattle.packet.specs.declared.ClockReference.{ClockReference}
+use Rattle.packet.specs.declared.AdaptationField.{AdaptationField}
+use Rattle.packet.specs.declared.TsPacket.{TsPacket}
+use Rattle.packet.specs.declared.TsError.{TsError}
 use Rattle.arrival.specs.declared.RateInterval.{RateInterval}
 use Rattle.arrival.specs.declared.Sample.{Sample}
 use Rattle.arrival.specs.declared.Anchor.{Anchor}
@@ -158,20 +159,20 @@ build_within depth ss o = cond_within (ltb depth (length ss)) _ _ tt (cond_withi
 
 -- ---- the samples of a recording
 module _ (pcrPid : ℕ) where
-  pcr_in_order : (before start : ℕ) (marked : Bool) (pcr : MaybeClockReference) (rest : List Sample) → before ≤ start
+  pcr_in_order : (before start : ℕ) (marked : Bool) (pcr : Option ClockReference) (rest : List Sample) → before ≤ start
       → ((b : ℕ) → b ≤ start + 188 → InOrder b rest) → InOrder before ((seen_pcr start marked pcr).sample ++ rest)
   unfolding seen_pcr
-  pcr_in_order before start marked MaybeClockReference.Absent rest h again = again before (omega arith)
-  pcr_in_order before start marked (MaybeClockReference.Present r) rest h again = (omega arith, omega arith, again (start + 10) (omega arith))
+  pcr_in_order before start marked None rest h again = again before (omega arith)
+  pcr_in_order before start marked (Some r) rest h again = (omega arith, omega arith, again (start + 10) (omega arith))
 
-  seen_in_order : (before start : ℕ) (pending : Bool) (f : MaybeAdaptationField) (rest : List Sample) → before ≤ start
+  seen_in_order : (before start : ℕ) (pending : Bool) (f : Option AdaptationField) (rest : List Sample) → before ≤ start
       → ((b : ℕ) → b ≤ start + 188 → InOrder b rest) → InOrder before ((seen_in start pending f).sample ++ rest)
   unfolding seen_in
-  seen_in_order before start pending MaybeAdaptationField.Absent rest h again = again before (omega arith)
-  seen_in_order before start pending (MaybeAdaptationField.Present f) rest h again =
+  seen_in_order before start pending None rest h again = again before (omega arith)
+  seen_in_order before start pending (Some f) rest h again =
       pcr_in_order before start _ f.pcr rest h again
 
-  samples_in_order : (ps : List Parse) (before start : ℕ) (pending : Bool) → before ≤ start → start + 188 * length ps ≤ byte_limit
+  samples_in_order : (ps : List (Result TsPacket TsError)) (before start : ℕ) (pending : Bool) → before ≤ start → start + 188 * length ps ≤ byte_limit
       → InOrder before (samples_from pcrPid start pending ps)
   unfolding samples_from
   samples_in_order [] before start pending h l = omega arith
@@ -179,7 +180,7 @@ module _ (pcrPid : ℕ) where
       seen_in_order before start pending (field_on pcrPid p) _ h (λ b g. samples_in_order ps b (start + 188) (seen_in start pending (field_on pcrPid p)).pending g (omega arith))
 
   -- the clock of a recording of 2 ^ 24 bytes at most
-  pub clock_within : (depth : ℕ) (ps : List Parse) → 188 * length ps ≤ byte_limit → BuiltWithin (build depth (samples_of pcrPid ps))
+  pub clock_within : (depth : ℕ) (ps : List (Result TsPacket TsError)) → 188 * length ps ≤ byte_limit → BuiltWithin (build depth (samples_of pcrPid ps))
   clock_within depth ps l = build_within depth (samples_of pcrPid ps) (samples_in_order ps 0 0 false (omega arith) (omega arith))
 
 -- ---- times

@@ -3,8 +3,9 @@
 use Rattle.std.specs.Prelude.{◌≡◌, ℕ, ◌+◌, ◌-◌, ◌*◌, ◌^◌, Bool, false, cond, ◌&&◌, ◌||◌, List, [], ◌∷◌, ◌==◌, nat_le, nat_lt, slice_set, Float, Option, Some, None, Result, Ok, Err, is_some}
 use Rattle.ieee.specs.Binary64.{0f}
 use Rattle.error.specs.declared.Refusal.{Refusal}
-use Rattle.packet.specs.declared.MaybeClockReference.{MaybeClockReference}
-use Rattle.packet.specs.declared.Parse.{Parse}
+use Rattle.packet.specs.declared.ClockReference.{ClockReference}
+use Rattle.packet.specs.declared.TsPacket.{TsPacket}
+use Rattle.packet.specs.declared.TsError.{TsError}
 use Rattle.arrival.specs.declared.RateInterval.{RateInterval}
 use Rattle.arrival.specs.declared.Sample.{Sample}
 use Rattle.arrival.specs.declared.Anchor.{Anchor}
@@ -139,15 +140,15 @@ other_packet p =
     p
 
 -- a packet on the PCR PID, by its adaptation field
-abbrev pub pass_field : ℕ → ℕ → Passing → Bool → MaybeClockReference → Passing
+abbrev pub pass_field : ℕ → ℕ → Passing → Bool → Option ClockReference → Passing
 pass_field depth from w discontinuity pcr =
     pass_seen depth from w (seen_pcr w.pass.start (w.pass.pending_discontinuity || discontinuity) pcr)
 
-unfoldable pub pass_packet : ℕ → ℕ → ℕ → Passing → Parse → Passing
+unfoldable pub pass_packet : ℕ → ℕ → ℕ → Passing → Result TsPacket TsError → Passing
 pass_packet pcrPid depth from w p =
     pass_seen depth from w (seen_in w.pass.start w.pass.pending_discontinuity (field_on pcrPid p))
 
-unfoldable pub pass_packets : ℕ → ℕ → ℕ → Passing → List Parse → Passing
+unfoldable pub pass_packets : ℕ → ℕ → ℕ → Passing → List (Result TsPacket TsError) → Passing
 pass_packets pcrPid depth from w [] = w
 pass_packets pcrPid depth from w (p ∷ ps) = pass_packets pcrPid depth from (pass_packet pcrPid depth from w p) ps
 

@@ -12,7 +12,7 @@ ghost use Rattle.arrival.specs.Pass.{no_sample, store_times, store_places, first
 
 use clock::{Extended, PCR_MODULUS_27MHZ};
 use error::Refusal;
-use packet::{ClockReference, MaybeAdaptationField, MaybeClockReference, Parse};
+use packet::{ClockReference, TsError, TsPacket};
 
 // A PCR on the PCR PID: its byte position, its ticks of 27 MHz, and whether a discontinuity is marked at it.
 #[derive(Clone, Copy)]
@@ -366,7 +366,7 @@ impl ClockPass {
     pub fn field(
         self,
         discontinuity_indicator: bool,
-        pcr: MaybeClockReference,
+        pcr: Option<ClockReference>,
         times: &mut [f64],
         from: usize,
         places: &mut [u64],
@@ -380,12 +380,12 @@ impl ClockPass {
         let start = self.start + 188;
         let marked = self.pending_discontinuity | discontinuity_indicator;
         match pcr {
-            MaybeClockReference::Absent => ClockPass {
+            None => ClockPass {
                 start,
                 pending_discontinuity: marked,
                 ..self
             },
-            MaybeClockReference::Present(reference) => {
+            Some(reference) => {
                 let sample = Sample {
                     position: self.start + 10,
                     ticks: ticks_of(reference),
@@ -403,7 +403,7 @@ impl ClockPass {
     // Ruled out: the clock of another PID; a stop at a packet that does not parse.
     pub fn packet(
         self,
-        parsed: Parse,
+        parsed: Result<TsPacket, TsError>,
         pcr_pid: u16,
         times: &mut [f64],
         from: usize,
@@ -412,27 +412,24 @@ impl ClockPass {
     ) -> ClockPass
         ensures { Passes (pass_packet pcr_pid depth from (record { pass = self; times = times.old; places = places.old }) parsed) result times.new places.new }
     {
-        match parsed {
-            Parse::Packet(packet) => {
-                if packet.pid != pcr_pid {
-                    return self.other();
-                }
-                match packet.adaptation_field {
-                    MaybeAdaptationField::Absent => self.other(),
-                    MaybeAdaptationField::Present(field) => {
-                        self.field(
-                            field.discontinuity_indicator,
-                            field.pcr,
-                            times,
-                            from,
-                            places,
-                            depth,
-                        )
-                    }
-                }
+        let Ok(packet) = parsed else {
+            return self.other();
+        };
+        if packet.pid != pcr_pid {
+            return self.other();
+        }
+        match packet.adaptation_field {
+            Some(field) => {
+                self.field(
+                    field.discontinuity_indicator,
+                    field.pcr,
+                    times,
+                    from,
+                    places,
+                    depth,
+                )
             }
-            Parse::Truncated { have: _, need: _ } => self.other(),
-            Parse::BadSyncByte(_) => self.other(),
+            None => self.other(),
         }
     }
 }

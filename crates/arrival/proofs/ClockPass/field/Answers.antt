@@ -5,9 +5,9 @@ use Rattle.arrival.proofs.ClockPass.field.Goals as goal
 pub returns-then-self : goal.returns-then-self
 returns-then-self c = past_the_end _ _ _ _ _ _ _ c.if-self.true
 
-pub returns-in-Absent : goal.returns-in-Absent
-returns-in-Absent c = no_pcr _ _ _ _ _ _ _ c.if-self.false c.in-Absent.is
+pub returns-in-None : goal.returns-in-None
+returns-in-None c = no_pcr _ _ _ _ _ _ _ c.if-self.false c.in-None.is
 
-pub returns-in-Present : goal.returns-in-Present
-returns-in-Present c =
-    a_pcr _ _ _ _ _ _ _ c.if-self.false _ _ _ c.in-Present.is (rw c.ticks_of.ensures at c.sample.ensures)
+pub returns-in-Some : goal.returns-in-Some
+returns-in-Some c =
+    a_pcr _ _ _ _ _ _ _ c.if-self.false _ _ _ c.in-Some.is (rw c.ticks_of.ensures at c.sample.ensures)
