@@ -6,8 +6,9 @@ use mathlib.Core.List.{map}
 use native.Mathlib.Omega.{arith}
 use borrow.Author.Tests.{lt-ltb, le-ltb}
 use Rattle.error.specs.declared.Refusal.{Refusal}
-use Rattle.clock.specs.declared.Extended.{Extended}
-use Rattle.clock.specs.Timestamp.{timestamp_modulus, distance, in_epoch, epochs_around, candidates, nearest, nearest_timestamp, extend_near}
+use Rattle.std.specs.Prelude.{Ok, Err}
+use Rattle.clock.specs.Timestamp.{timestamp_modulus, in_epoch, epochs_around, candidates, nearest, nearest_timestamp, extend_near}
+use Rattle.std.specs.Int.{abs_diff}
 use Rattle.clock.proofs.Nearest.{Picks, here, there, picked}
 
 -- at most half a wrap below the reference and less than half a wrap above it; or, near 0, in the first wrap
@@ -19,8 +20,8 @@ pub record Extends (raw reference r : ℕ) : Type 0 where
 -- of all numbers of raw's residue none lies closer to the reference, and none that lies as close is lower
 pub record NearestOfAll (raw reference r : ℕ) : Type 0 where
   pub same_residue : r % timestamp_modulus ≡ raw % timestamp_modulus
-  pub closest : (c : ℕ) → c % timestamp_modulus ≡ raw % timestamp_modulus → distance r reference ≤ distance c reference
-  pub lowest : (c : ℕ) → c % timestamp_modulus ≡ raw % timestamp_modulus → distance c reference ≡ distance r reference → r ≤ c
+  pub closest : (c : ℕ) → c % timestamp_modulus ≡ raw % timestamp_modulus → abs_diff r reference ≤ abs_diff c reference
+  pub lowest : (c : ℕ) → c % timestamp_modulus ≡ raw % timestamp_modulus → abs_diff c reference ≡ abs_diff r reference → r ≤ c
 
 pub extends_unique : (raw reference r s : ℕ) → Extends raw reference r → Extends raw reference s → r ≡ s
 extends_unique raw reference r s g h = omega arith
@@ -30,7 +31,7 @@ extends_nearest raw reference r h = omega arith
 
 module _ (raw reference : ℕ) where
   above : (b : ℕ) → reference / timestamp_modulus ≡ suc b
-      → distance (in_epoch raw (suc (suc b))) reference < distance (in_epoch raw (suc b)) reference
+      → abs_diff (in_epoch raw (suc (suc b))) reference < abs_diff (in_epoch raw (suc b)) reference
       → Extends raw reference (in_epoch raw (suc (suc b)))
   above b e h = omega arith
 
@@ -66,10 +67,10 @@ module _ (raw reference : ℕ) where
   nearest_fits h = omega (arith, nearest_extends)
 
   pub extend_accepted : reference < 2 ^ 64 - timestamp_modulus
-      → extend_near raw reference ≡ Extended.Timestamp (nearest_timestamp raw reference)
+      → extend_near raw reference ≡ Ok (nearest_timestamp raw reference)
   unfolding extend_near
   extend_accepted h = rw (lt-ltb reference (2 ^ 64 - timestamp_modulus) h)
 
-  pub extend_refused : 2 ^ 64 - timestamp_modulus ≤ reference → extend_near raw reference ≡ Extended.Refused Refusal.OutsideLimits
+  pub extend_refused : 2 ^ 64 - timestamp_modulus ≤ reference → extend_near raw reference ≡ Err Refusal.OutsideLimits
   unfolding extend_near
   extend_refused h = rw (le-ltb reference (2 ^ 64 - timestamp_modulus) h)

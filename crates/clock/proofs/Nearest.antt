@@ -6,11 +6,12 @@ use mathlib.Core.List.{List, [], ◌∷◌, ◌++◌}
 use native.Mathlib.Decide.{dec_le}
 use native.Mathlib.Nat.{le_refl, le_trans, le_of_lt, lt_of_lt_of_le, lt_of_not-le}
 use borrow.Author.Tests.{le-leb, lt-leb}
-use Rattle.clock.specs.Timestamp.{distance, none_closer, first, nearest}
+use Rattle.clock.specs.Timestamp.{none_closer, first, nearest}
+use Rattle.std.specs.Int.{abs_diff}
 
 module _ (reference : ℕ) where
   abbrev away : ℕ → ℕ
-  away x = distance x reference
+  away x = abs_diff x reference
 
   abbrev pub NoneCloser : ℕ → List ℕ → Type 0
   NoneCloser c [] = Unit {0}

@@ -1,5 +1,5 @@
 -- The step between two PCRs: congruent to their difference, within half a wrap, and the difference itself where that is within half a wrap.
-use Prim.Native.Nat.{ℕ, zero, suc, ◌+◌, ◌-◌, ◌^◌, ◌≤◌, ◌<◌}
+use Prim.Native.Nat.{ℕ, zero, suc, ◌-◌, ◌^◌, ◌≤◌, ◌<◌}
 use mathlib.Core.Path.{◌≡◌, refl, sym}
 use mathlib.Core.Bool.{Bool, true, false, cond, and-false}
 use native.Mathlib.Omega.{arith}
@@ -12,33 +12,24 @@ use mir.Val.{SFits, to_z, of_z}
 use mir.Facts.{to_z_pos, to_z-of_z}
 use Rattle.error.specs.declared.Refusal.{Refusal}
 use Rattle.clock.specs.declared.Pcr.{Pcr}
-use Rattle.clock.specs.declared.Delta.{Delta}
-use Rattle.clock.specs.Timestamp.{distance}
+use Rattle.std.specs.Prelude.{Ok, Err}
+use Rattle.std.specs.Int.{abs_diff}
 use Rattle.clock.specs.Pcr.{pcr_modulus, half_pcr_modulus, wrapped, difference, delta_ticks}
 
-nat_abs_sub_lem : (a b : ℕ) → nat_abs (sub_ℕ a b) ≡ distance a b
+nat_abs_sub_lem : (a b : ℕ) → nat_abs (sub_ℕ a b) ≡ abs_diff a b
 nat_abs_sub_lem a b = by (ltb a b) refl
   where
-    by : (t : Bool) → ltb a b ≡ t → nat_abs (cond t (negsuc (b - suc a)) (pos (a - b))) ≡ distance a b
+    by : (t : Bool) → ltb a b ≡ t → nat_abs (cond t (negsuc (b - suc a)) (pos (a - b))) ≡ abs_diff a b
     by true e = omega (arith, ltb-true a b e)
     by false e = omega (arith, ltb-false a b e)
 
-pub nat_abs_difference_lem : (a b : ℕ) → nat_abs (pos a -ℤ pos b) ≡ distance a b
+pub nat_abs_difference_lem : (a b : ℕ) → nat_abs (pos a -ℤ pos b) ≡ abs_diff a b
 nat_abs_difference_lem a zero = omega arith
 nat_abs_difference_lem a (suc b) = nat_abs_sub_lem a (suc b)
-
-nat_abs_add_lem : (x y : ℤ) → nat_abs (x +ℤ y) ≤ nat_abs x + nat_abs y
-nat_abs_add_lem (pos a) (pos b) = omega arith
-nat_abs_add_lem (pos a) (negsuc b) = omega (arith, nat_abs_sub_lem a (suc b))
-nat_abs_add_lem (negsuc a) (pos b) = omega (arith, nat_abs_sub_lem b (suc a))
-nat_abs_add_lem (negsuc a) (negsuc b) = omega arith
 
 pub fits_nat_abs : (z : ℤ) → nat_abs z < 2 ^ 63 → SFits w64 z
 fits_nat_abs (pos a) h = record { sfits = h }
 fits_nat_abs (negsuc a) h = record { sfits = omega arith }
-
-pub sum_fits : (x y : ℤ) → nat_abs x + nat_abs y < 2 ^ 63 → SFits w64 (x +ℤ y)
-sum_fits x y h = fits_nat_abs _ (omega (arith, nat_abs_add_lem x y))
 
 wraps_of : (z : ℤ) (s t : Bool)
     → (wraps : ℤ) × (z ≡ cond s (z -ℤ pos pcr_modulus) (cond t (z +ℤ pos pcr_modulus) z) +ℤ wraps *ℤ pos pcr_modulus)
@@ -78,16 +69,16 @@ wrapped_step z h =
     record { wraps = w.0; congruent = w.1; within_half = within z h; keeps = kept z }
 
 module _ (self other : Pcr) where
-  pub delta_refused_self : pcr_modulus ≤ self.ticks_27mhz → delta_ticks self other ≡ Delta.Refused Refusal.OutsideLimits
+  pub delta_refused_self : pcr_modulus ≤ self.ticks_27mhz → delta_ticks self other ≡ Err Refusal.OutsideLimits
   unfolding delta_ticks
   delta_refused_self h = rw (le-ltb self.ticks_27mhz pcr_modulus h)
 
-  pub delta_refused_other : pcr_modulus ≤ other.ticks_27mhz → delta_ticks self other ≡ Delta.Refused Refusal.OutsideLimits
+  pub delta_refused_other : pcr_modulus ≤ other.ticks_27mhz → delta_ticks self other ≡ Err Refusal.OutsideLimits
   unfolding delta_ticks
   delta_refused_other h = rw (le-ltb other.ticks_27mhz pcr_modulus h, and-false)
 
   module _ (below : self.ticks_27mhz < pcr_modulus) (other-below : other.ticks_27mhz < pcr_modulus) where
-    pub delta_accepted : delta_ticks self other ≡ Delta.Ticks (wrapped (difference self other))
+    pub delta_accepted : delta_ticks self other ≡ Ok (wrapped (difference self other))
     unfolding delta_ticks
     delta_accepted = rw (lt-ltb self.ticks_27mhz pcr_modulus below, lt-ltb other.ticks_27mhz pcr_modulus other-below)
 

@@ -1,9 +1,8 @@
 -- The signed step between two PCRs (27 MHz ticks, modulo 2 ^ 33 × 300), as `Pcr::delta_ticks` takes it.
-use Rattle.std.specs.Prelude.{ℕ, ◌*◌, ◌/◌, ◌^◌, cond, ◌&&◌, ltb, ℤ, pos, neg_ℤ, ◌+ℤ◌, ◌-ℤ◌}
+use Rattle.std.specs.Prelude.{ℕ, ◌*◌, ◌/◌, ◌^◌, cond, ◌&&◌, ltb, ℤ, pos, neg_ℤ, ◌+ℤ◌, ◌-ℤ◌, Result, Ok, Err}
 use Rattle.std.specs.Int.Signed.{lt_z}
 use Rattle.error.specs.declared.Refusal.{Refusal}
 use Rattle.clock.specs.declared.Pcr.{Pcr}
-use Rattle.clock.specs.declared.Delta.{Delta}
 
 -- one wrap of base × 300 + extension (H.222.0 2.4.2.2)
 abbrev pub pcr_modulus : ℕ
@@ -22,8 +21,8 @@ abbrev pub difference : Pcr → Pcr → ℤ
 difference self other = pos self.ticks_27mhz -ℤ pos other.ticks_27mhz
 
 -- ticks of a whole wrap or more are no PCR: number 1
-unfoldable pub delta_ticks : Pcr → Pcr → Delta
+unfoldable pub delta_ticks : Pcr → Pcr → Result ℤ Refusal
 delta_ticks self other =
     cond (ltb self.ticks_27mhz pcr_modulus && ltb other.ticks_27mhz pcr_modulus)
-    (Delta.Ticks (wrapped (difference self other)))
-    (Delta.Refused Refusal.OutsideLimits)
+    (Ok (wrapped (difference self other)))
+    (Err Refusal.OutsideLimits)

@@ -2,7 +2,7 @@
 #![tactic(auto)]
 
 ghost use Rattle.std.specs.Prelude.{◌≡◌, [], ◌∷◌, ◌-◌, ◌^◌, ◌<◌, nat_abs};
-ghost use Rattle.clock.specs.Timestamp.{timestamp_modulus, distance, in_epoch, nearest, nearest_timestamp, extend_near};
+ghost use Rattle.clock.specs.Timestamp.{timestamp_modulus, in_epoch, nearest, nearest_timestamp, extend_near};
 ghost use Rattle.clock.specs.Pcr.{pcr_modulus, wrapped, delta_ticks};
 
 use error::Refusal;
@@ -17,50 +17,19 @@ const REFERENCE_LIMIT: u64 = u64::MAX - TIMESTAMP_MODULUS_90KHZ + 1;
 pub const PCR_MODULUS_27MHZ: u64 = (1 << 33) * 300;
 
 #[derive(Clone, Copy)]
-pub enum Extended {
-    Timestamp(u64),
-    // Number 1: the reference is at the limit or above.
-    Refused(Refusal),
-}
-
-#[derive(Clone, Copy)]
-pub enum Delta {
-    Ticks(i64),
-    // Number 1: ticks of a whole wrap or more.
-    Refused(Refusal),
-}
-
-#[derive(Clone, Copy)]
 pub struct Pcr {
     pub ticks_27mhz: u64,
-}
-
-fn abs_diff(a: u64, b: u64) -> u64
-    ensures { result ≡ distance a b }
-{
-    if a < b {
-        return b - a;
-    }
-    a - b
-}
-
-fn saturating_sub(a: u64, b: u64) -> u64
-    ensures { result ≡ a - b }
-{
-    if a < b {
-        return 0;
-    }
-    a - b
 }
 
 // The higher one only where it lies closer: a tie takes the lower.
 fn nearer(lower: u64, higher: u64, reference: u64) -> u64
     ensures { result ≡ nearest reference (lower ∷ higher ∷ []) }
 {
-    if abs_diff(higher, reference) < abs_diff(lower, reference) {
-        return higher;
+    if higher.abs_diff(reference) < lower.abs_diff(reference) {
+        higher
+    } else {
+        lower
     }
-    lower
 }
 
 fn in_epoch(raw_timestamp: u64, epoch: u64) -> u64
@@ -76,7 +45,7 @@ fn nearest_timestamp(raw_timestamp: u64, reference: u64) -> u64
     ensures { result ≡ nearest_timestamp raw_timestamp reference }
 {
     let own = reference / TIMESTAMP_MODULUS_90KHZ;
-    let lowest = saturating_sub(own, 1);
+    let lowest = own.saturating_sub(1);
     let end = own + 2;
     let mut best = in_epoch(raw_timestamp, lowest);
     for epoch in lowest + 1..end {
@@ -85,14 +54,16 @@ fn nearest_timestamp(raw_timestamp: u64, reference: u64) -> u64
     best
 }
 
-// Two answers that the contract rules out: the reference's own epoch whatever the distance, and the higher of two epochs equally near.
-pub fn extend_near(raw_timestamp: u64, reference: u64) -> Extended
+// Number 1: the reference is at the limit or above.
+// Ruled out: the reference's own epoch whatever the distance; the higher of two epochs equally near.
+pub fn extend_near(raw_timestamp: u64, reference: u64) -> Result<u64, Refusal>
     ensures { result ≡ extend_near raw_timestamp reference }
 {
     if reference < REFERENCE_LIMIT {
-        return Extended::Timestamp(nearest_timestamp(raw_timestamp, reference));
+        Ok(nearest_timestamp(raw_timestamp, reference))
+    } else {
+        Err(Refusal::OutsideLimits)
     }
-    Extended::Refused(Refusal::OutsideLimits)
 }
 
 // A difference of two PCRs brought within half a wrap.
@@ -112,18 +83,14 @@ fn wrap_step(raw: i64) -> i64
 }
 
 impl Pcr {
-    // `self` - `other`. Two answers that the contract rules out: -m / 2 for a difference of m / 2, and a step for ticks of m (m the modulus).
-    pub fn delta_ticks(self, other: Pcr) -> Delta
+    // `self` - `other`. Number 1: ticks of a whole wrap or more.
+    // Ruled out, with m the modulus: -m / 2 for a difference of m / 2; a step for ticks of m.
+    pub fn delta_ticks(self, other: Pcr) -> Result<i64, Refusal>
         ensures { result ≡ delta_ticks self other }
     {
-        let ticks = self.ticks_27mhz;
-        let other_ticks = other.ticks_27mhz;
-        if ticks >= PCR_MODULUS_27MHZ {
-            return Delta::Refused(Refusal::OutsideLimits);
+        if self.ticks_27mhz >= PCR_MODULUS_27MHZ || other.ticks_27mhz >= PCR_MODULUS_27MHZ {
+            return Err(Refusal::OutsideLimits);
         }
-        if other_ticks >= PCR_MODULUS_27MHZ {
-            return Delta::Refused(Refusal::OutsideLimits);
-        }
-        Delta::Ticks(wrap_step(ticks as i64 - other_ticks as i64))
+        Ok(wrap_step(self.ticks_27mhz as i64 - other.ticks_27mhz as i64))
     }
 }
