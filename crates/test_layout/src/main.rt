@@ -4,9 +4,8 @@
 ghost use Rattle.std.specs.Prelude.{◌≡◌, length};
 
 use packet::{
-    AdaptationField, AdaptationFieldExtension, Detected, MaybeAdaptationField, MaybeClockReference,
-    MaybeExtension, MaybeLtw, MaybePiecewiseRate, MaybePrivateData, MaybeSeamlessSplice,
-    MaybeSpliceCountdown, Parse, TsPacket, TsPacketLayout,
+    AdaptationField, AdaptationFieldExtension, ClockReference, PrivateData, TsError, TsPacket,
+    TsPacketLayout,
 };
 use std::io;
 
@@ -19,11 +18,11 @@ fn number(rt: &impl Print, n: u64) -> io::Result<()> {
 }
 
 fn mark(rt: &impl Print, b: bool) -> io::Result<()> {
-    if b { number(rt, 1) } else { number(rt, 0) }
+    number(rt, u64::from(b))
 }
 
 fn byte(rt: &impl Print, b: u8) -> io::Result<()> {
-    number(rt, b as u64)
+    number(rt, u64::from(b))
 }
 
 fn size(rt: &impl Print, n: usize) -> io::Result<()> {
@@ -36,12 +35,12 @@ fn line(rt: &impl Print) -> io::Result<()> {
 
 fn layout(rt: &impl Print, buf: &[u8]) -> io::Result<()> {
     match packet::detect_packet_layout(buf) {
-        Detected::Found(y) => {
+        Some(y) => {
             text(rt, "layout")?;
             size(rt, y.packet_size)?;
             size(rt, y.sync_offset)?;
         }
-        Detected::Nothing => text(rt, "nothing")?,
+        None => text(rt, "nothing")?,
     }
     line(rt)
 }
@@ -57,32 +56,32 @@ fn window(rt: &impl Print, buf: &[u8], y: TsPacketLayout, k: usize) -> io::Resul
     line(rt)
 }
 
-fn clock(rt: &impl Print, c: MaybeClockReference) -> io::Result<()> {
+fn clock(rt: &impl Print, c: Option<ClockReference>) -> io::Result<()> {
     match c {
-        MaybeClockReference::Absent => text(rt, ",-"),
-        MaybeClockReference::Present(r) => {
+        None => text(rt, ",-"),
+        Some(r) => {
             number(rt, r.base)?;
-            number(rt, r.extension as u64)
+            number(rt, u64::from(r.extension))
         }
     }
 }
 
 // Whether the countdown is below 0, and whether it is -5.
-fn countdown(rt: &impl Print, c: MaybeSpliceCountdown) -> io::Result<()> {
+fn countdown(rt: &impl Print, c: Option<i8>) -> io::Result<()> {
     match c {
-        MaybeSpliceCountdown::Absent => text(rt, ",-"),
-        MaybeSpliceCountdown::Present(n) => {
+        None => text(rt, ",-"),
+        Some(n) => {
             mark(rt, n < 0)?;
             mark(rt, n == -5)
         }
     }
 }
 
-fn private_data(rt: &impl Print, bytes: &[u8], p: MaybePrivateData) -> io::Result<()> {
+fn private_data(rt: &impl Print, bytes: &[u8], p: Option<PrivateData>) -> io::Result<()> {
     match p {
-        MaybePrivateData::Absent => text(rt, ",-"),
-        MaybePrivateData::Present { start, len } => {
-            let d = packet::private_data(bytes, start, len);
+        None => text(rt, ",-"),
+        Some(p) => {
+            let d = packet::private_data(bytes, p.start, p.len);
             size(rt, d.len())?;
             if 0 < d.len() {
                 byte(rt, d[0])?;
@@ -93,82 +92,68 @@ fn private_data(rt: &impl Print, bytes: &[u8], p: MaybePrivateData) -> io::Resul
 }
 
 fn extension_of(rt: &impl Print, e: AdaptationFieldExtension) -> io::Result<()> {
-    let ltw = e.ltw;
-    let rate = e.piecewise_rate;
-    let splice = e.seamless_splice;
-    number(rt, e.length as u64)?;
-    match ltw {
-        MaybeLtw::Absent => text(rt, ",-")?,
-        MaybeLtw::Present { valid, offset } => {
-            mark(rt, valid)?;
-            number(rt, offset as u64)?;
+    byte(rt, e.length)?;
+    match e.ltw {
+        None => text(rt, ",-")?,
+        Some(l) => {
+            mark(rt, l.valid)?;
+            number(rt, u64::from(l.offset))?;
         }
     }
-    match rate {
-        MaybePiecewiseRate::Absent => text(rt, ",-")?,
-        MaybePiecewiseRate::Present(r) => number(rt, r as u64)?,
+    match e.piecewise_rate {
+        None => text(rt, ",-")?,
+        Some(r) => number(rt, u64::from(r))?,
     }
-    match splice {
-        MaybeSeamlessSplice::Absent => text(rt, ",-"),
-        MaybeSeamlessSplice::Present {
-            splice_type,
-            dts_next_au,
-        } => {
-            number(rt, splice_type as u64)?;
-            number(rt, dts_next_au)
+    match e.seamless_splice {
+        None => text(rt, ",-"),
+        Some(s) => {
+            byte(rt, s.splice_type)?;
+            number(rt, s.dts_next_au)
         }
     }
 }
 
 fn field(rt: &impl Print, bytes: &[u8], f: AdaptationField) -> io::Result<()> {
-    let pcr = f.pcr;
-    let opcr = f.opcr;
-    let splice = f.splice_countdown;
-    let data = f.transport_private_data;
-    let extension = f.adaptation_field_extension;
-    number(rt, f.length as u64)?;
+    byte(rt, f.length)?;
     mark(rt, f.discontinuity_indicator)?;
     mark(rt, f.random_access_indicator)?;
     mark(rt, f.elementary_stream_priority_indicator)?;
-    clock(rt, pcr)?;
-    clock(rt, opcr)?;
-    countdown(rt, splice)?;
-    private_data(rt, bytes, data)?;
-    match extension {
-        MaybeExtension::Absent => text(rt, ",-"),
-        MaybeExtension::Present(e) => extension_of(rt, e),
+    clock(rt, f.pcr)?;
+    clock(rt, f.opcr)?;
+    countdown(rt, f.splice_countdown)?;
+    private_data(rt, bytes, f.transport_private_data)?;
+    match f.adaptation_field_extension {
+        None => text(rt, ",-"),
+        Some(e) => extension_of(rt, e),
     }
 }
 
 fn parsed(rt: &impl Print, bytes: &[u8], p: TsPacket) -> io::Result<()> {
-    let f = p.adaptation_field;
-    let start = p.payload_start;
     text(rt, "packet")?;
-    number(rt, p.pid as u64)?;
+    number(rt, u64::from(p.pid))?;
     mark(rt, p.payload_unit_start)?;
     mark(rt, p.transport_error)?;
     mark(rt, p.transport_priority)?;
-    number(rt, p.transport_scrambling_control as u64)?;
-    number(rt, p.continuity_counter as u64)?;
-    let d = packet::payload(bytes, start);
-    size(rt, d.len())?;
-    match f {
-        MaybeAdaptationField::Absent => text(rt, ",-"),
-        MaybeAdaptationField::Present(a) => field(rt, bytes, a),
+    byte(rt, p.transport_scrambling_control)?;
+    byte(rt, p.continuity_counter)?;
+    size(rt, packet::payload(bytes, p.payload_start).len())?;
+    match p.adaptation_field {
+        None => text(rt, ",-"),
+        Some(a) => field(rt, bytes, a),
     }
 }
 
 fn parse(rt: &impl Print, bytes: &[u8]) -> io::Result<()> {
     match TsPacket::parse(bytes) {
-        Parse::Packet(p) => parsed(rt, bytes, p)?,
-        Parse::Truncated { have, need } => {
+        Ok(p) => parsed(rt, bytes, p)?,
+        Err(TsError::Truncated(t)) => {
             text(rt, "truncated")?;
-            size(rt, have)?;
-            size(rt, need)?;
+            size(rt, t.have)?;
+            size(rt, t.need)?;
         }
-        Parse::BadSyncByte(b) => {
+        Err(TsError::BadSyncByte(b)) => {
             text(rt, "sync")?;
-            number(rt, b as u64)?;
+            byte(rt, b)?;
         }
     }
     line(rt)
