@@ -10,7 +10,7 @@ ghost use Rattle.arrival.specs.Samples.{ticks_of};
 ghost use Rattle.arrival.specs.Work.{holds, interval_in, nowhere_at, cursor_at, advance, start_of_arrival, next_arrival};
 ghost use Rattle.arrival.specs.Pass.{no_sample, store_times, store_places, first_refusal, refusal_at, in_range, closed_by, take_sample, Builds, answer_of, no_packet, other_packet, pass_field, pass_packet, Passes};
 
-use clock::{Extended, PCR_MODULUS_27MHZ};
+use clock::PCR_MODULUS_27MHZ;
 use error::Refusal;
 use packet::{ClockReference, TsError, TsPacket};
 
@@ -477,10 +477,8 @@ impl RateInterval {
         ensures { result ≡ decode_time_or_zero self raw_90k }
     {
         match clock::extend_near(raw_90k, self.pcr_ref_90k) {
-            Extended::Timestamp(ticks) => {
-                std::num::nearest_u64_to_f64(ticks) / 90000.0 + self.pts_offset
-            }
-            Extended::Refused(_) => 0.0,
+            Ok(ticks) => std::num::nearest_u64_to_f64(ticks) / 90000.0 + self.pts_offset,
+            Err(_) => 0.0,
         }
     }
 }
