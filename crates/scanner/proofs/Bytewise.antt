@@ -1,5 +1,6 @@
 -- The Rust's scanner, byte by byte, gives the runs of the two cuts: for a payload from each state, and for every sequence of payloads
 -- in which no start bit stands on an empty one. Assumes nothing.
+use Rattle.std.specs.Prelude.{None}
 use mathlib.Core.Path.{◌≡◌, refl, sym, ◌∙◌, ap}
 use mathlib.Core.Bool.{Bool, true, false, cond}
 use mathlib.Core.List.{List, [], ◌∷◌, ◌++◌, map, append-nil}
@@ -12,7 +13,6 @@ use lib.ListN.{length, take, drop, length-append, length-drop}
 use lib.Seq.{take-append-le, drop-length}
 use borrow.Author.Tests.{lt-ltb, le-ltb}
 use Rattle.syntax.proofs.Bytes.{Bytes}
-use Rattle.scanner.specs.declared.DecodeTs.{DecodeTs}
 use Rattle.scanner.specs.declared.Fed.{Fed}
 use Rattle.scanner.specs.Unit.{stamp_end, content_begin, stamp_of, runs_of, no_runs, Open, none, unit, runs_in, next, starts, next_open}
 use Rattle.scanner.specs.ByteScanner.{sizing_of, ByteScanner, byte_default, Collected, collect, ByteFed, turns, byte_feed, Fragment, Feedable, byte_runs, scanned_runs}
@@ -84,7 +84,7 @@ module _ (u p : List ℕ) (h : Bytes (u ++ p)) where
         turns_nil k (sizing_at 0 v) (length p),
         byte_sizing v a,
         unfinished v (length p) (omega (arith, len)) a,
-        one_run (header_run 0 (length p) DecodeTs.Absent) b,
+        one_run (header_run 0 (length p) None) b,
       )
 
   end_feed : length u < stamp_end v → stamp_end v ≤ length v → (k : ℕ) → length p ≤ suc k → turned (collect (sizing_at 0 u) p 0) k ≡ answer u p
@@ -198,7 +198,7 @@ same_runs fs k = same_from none fs tt k
 abbrev empty_start : List Fragment
 empty_start = record { start = true; bytes = [] } ∷ record { start = false; bytes = 0 ∷ [] } ∷ []
 
-pub rust_starts : byte_runs byte_default empty_start ≡ [] ∷ (header_run 0 1 DecodeTs.Absent ∷ []) ∷ []
+pub rust_starts : byte_runs byte_default empty_start ≡ [] ∷ (header_run 0 1 None ∷ []) ∷ []
 unfolding byte_runs byte_feed turns collect sizing_of
 rust_starts = refl
 

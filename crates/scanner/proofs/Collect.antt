@@ -1,5 +1,6 @@
 -- The inner loop of the Rust's scanner: it collects a header's bytes up to the end of the stamp's run.
 -- Assumes nothing.
+use Rattle.std.specs.Prelude.{Option, Some, None}
 use mathlib.Core.Path.{◌≡◌, refl, sym, ◌∙◌, ap}
 use mathlib.Core.Bool.{Bool, true, false, cond, ◌&&◌}
 use mathlib.Core.List.{List, [], ◌∷◌, ◌++◌, append-nil, append_assoc}
@@ -17,7 +18,6 @@ use Rattle.syntax.proofs.Bits.{bits_take}
 use Rattle.syntax.proofs.Bytes.{Bytes}
 use Rattle.syntax.proofs.TimeStamp.{timestamp_places}
 use Rattle.syntax.proofs.Pes.{pts_10, dts_11}
-use Rattle.scanner.specs.declared.DecodeTs.{DecodeTs}
 use Rattle.scanner.specs.Unit.{optional_header, pts_dts_flags, header_data_length, stamp_bytes, stamp_end_by, decode_ts_by, stamp_end, content_begin, stamp_of}
 use Rattle.scanner.specs.ByteScanner.{ts_want, ts33_at, ts_coded, Sizing, continue, resolved, sizing_of, ByteScanner, Collected, after_byte, collect}
 use Rattle.scanner.proofs.Kept.{below}
@@ -32,17 +32,17 @@ ts33_is w k =
 
 -- the Rust's match with guards is the choice of the rule
 coded : (f l p d x y : ℕ) → (f ≡ 2 → p ≡ x) → (f ≡ 3 → d ≡ y)
-    → cond (eqb f 2 && leb 5 l) (DecodeTs.At p) (cond (eqb f 3 && leb 10 l) (DecodeTs.At d) DecodeTs.Absent) ≡ decode_ts_by true f l x y
+    → cond (eqb f 2 && leb 5 l) (Some p) (cond (eqb f 3 && leb 10 l) (Some d) None) ≡ decode_ts_by true f l x y
 unfolding decode_ts_by
 coded f l p d x y hp hd = go (eqb f 2) refl (eqb f 3) refl (leb 5 l) (leb 10 l)
   where
     go : (a : Bool) → eqb f 2 ≡ a → (b : Bool) → eqb f 3 ≡ b → (c e : Bool)
-        → cond (a && c) (DecodeTs.At p) (cond (b && e) (DecodeTs.At d) DecodeTs.Absent)
-        ≡ cond a (cond c (DecodeTs.At x) DecodeTs.Absent) (cond b (cond e (DecodeTs.At y) DecodeTs.Absent) DecodeTs.Absent)
+        → cond (a && c) (Some p) (cond (b && e) (Some d) None)
+        ≡ cond a (cond c (Some x) None) (cond b (cond e (Some y) None) None)
     go true a true b c e = absurd (omega (arith, eqb-true f 2 a, eqb-true f 3 b))
-    go true a false b true e = ap DecodeTs.At (hp (eqb-true f 2 a))
+    go true a false b true e = ap Some (hp (eqb-true f 2 a))
     go true a false b false e = refl
-    go false a true b c true = ap DecodeTs.At (hd (eqb-true f 3 b))
+    go false a true b c true = ap Some (hd (eqb-true f 3 b))
     go false a true b c false = refl
     go false a false b c e = refl
 
@@ -125,7 +125,7 @@ module _ (q : ℕ) (u : List ℕ) (b : ℕ) (p : List ℕ) (n : ℕ) where
   unfolding collect stepped
   byte_on e = ap stepped e
 
-  byte_end : (k : ℕ) (ts : DecodeTs) → sizing_of (more u b) ≡ resolved k ts
+  byte_end : (k : ℕ) (ts : Option ℕ) → sizing_of (more u b) ≡ resolved k ts
       → collect (sizing_at q u) (b ∷ p) n ≡ record { scanner = sized_at k (more u b); taken = suc n; stamp = ts }
   unfolding collect stepped
   byte_end k ts e = ap stepped e
@@ -147,7 +147,7 @@ still_more w p k = go (below (length w) (stamp_end (w ++ p)))
 
 -- a payload that ends before the stamp's run does
 pub collect_on : (p u : List ℕ) (n q : ℕ) → Bytes (u ++ p) → length (u ++ p) < stamp_end (u ++ p)
-    → collect (sizing_at q u) p n ≡ record { scanner = sizing_at q (u ++ p); taken = n + length p; stamp = DecodeTs.Absent }
+    → collect (sizing_at q u) p n ≡ record { scanner = sizing_at q (u ++ p); taken = n + length p; stamp = None }
 unfolding collect
 collect_on [] u n q h k = rw (append-nil u, add-zero n)
 collect_on (b ∷ p) u n q h k =

@@ -1,5 +1,6 @@
 -- Document 01 on the runs of a payload: none before the first start; then they touch and cover it; where they end, and which of them
 -- has which stamp. Assumes nothing.
+use Rattle.std.specs.Prelude.{Option, Some, None}
 use mathlib.Core.Path.{◌≡◌, refl, sym, ◌∙◌, ap}
 use mathlib.Core.Bool.{Bool, true, false, cond, ◌&&◌}
 use mathlib.Core.List.{List, [], ◌∷◌, ◌++◌, append-nil}
@@ -14,7 +15,6 @@ use Rattle.syntax.specs.TimeStamp.{timestamp}
 use Rattle.syntax.proofs.Bits.{bound}
 use Rattle.syntax.proofs.TimeStamp.{timestamp_places}
 use Rattle.syntax.specs.Pes.{pts, dts}
-use Rattle.scanner.specs.declared.DecodeTs.{DecodeTs}
 use Rattle.scanner.specs.declared.Runs.{Runs}
 use Rattle.scanner.specs.Unit.{optional_header, pts_dts_flags, header_data_length, stamp_bytes, stamp_end_by, content_begin_by, decode_ts_by, stamp_end, content_begin, stamp_of, cut, runs_of, no_runs, Open, none, unit, runs_in, next, next_open}
 use Rattle.scanner.specs.Classified.{ClassifiedRun, header_run, payload_run, some_run, classified, Covers}
@@ -47,7 +47,7 @@ no_runs_lem size = refl
 abbrev total : Runs → ℕ
 total r = r.head + r.rest + r.body
 
-cover_cut : (n size s t : ℕ) (x : DecodeTs) → s ≤ t → total (cut n size s t x) ≡ size
+cover_cut : (n size s t : ℕ) (x : Option ℕ) → s ≤ t → total (cut n size s t x) ≡ size
 unfolding cut
 cover_cut n size s t x h =
     let k : min size (s - n) ≤ min size (t - n) = omega arith in omega arith
@@ -70,12 +70,12 @@ listed_covers : (r : Runs) → Covers 0 (total r) (classified r)
 unfolding classified Covers
 listed_covers r =
     some_covers (header_run 0 r.head r.decode_ts) 0 (total r) (rests ++ bodies) refl
-    (some_covers (header_run r.head r.rest DecodeTs.Absent) (0 + r.head) (total r) bodies (sym (zero-add r.head))
+    (some_covers (header_run r.head r.rest None) (0 + r.head) (total r) bodies (sym (zero-add r.head))
     (rw append-nil at
     (some_covers (payload_run (r.head + r.rest) r.body) (0 + r.head + r.rest) (total r) [] (ap (λ (n : ℕ). n + r.rest) (sym (zero-add r.head))) (omega arith))))
   where
     rests : List ClassifiedRun
-    rests = some_run (header_run r.head r.rest DecodeTs.Absent)
+    rests = some_run (header_run r.head r.rest None)
 
     bodies : List ClassifiedRun
     bodies = some_run (payload_run (r.head + r.rest) r.body)
@@ -91,7 +91,7 @@ pub at_most_three : (r : Runs) → length (classified r) ≤ 3
 unfolding classified
 at_most_three r =
     let h = header_run 0 r.head r.decode_ts in
-    let t = header_run r.head r.rest DecodeTs.Absent in
+    let t = header_run r.head r.rest None in
     let b = payload_run (r.head + r.rest) r.body in
     simp length-append (omega (arith, some_one h, some_one t, some_one b))
 
@@ -99,8 +99,8 @@ pub runs_cover : (u : List ℕ) (size : ℕ) → Covers 0 size (classified (runs
 runs_cover u size = rw (covers u size) at (listed_covers (runs_of u size))
 
 -- The cut's fields at a payload that ends before s, reaches s, or begins behind it.
-module _ (n size s t : ℕ) (x : DecodeTs) where
-  cut_before : n + size < s → s ≤ t → cut n size s t x ≡ record { head = size; decode_ts = DecodeTs.Absent; rest = 0; body = 0 }
+module _ (n size s t : ℕ) (x : Option ℕ) where
+  cut_before : n + size < s → s ≤ t → cut n size s t x ≡ record { head = size; decode_ts = None; rest = 0; body = 0 }
   unfolding cut
   cut_before h k =
       let a : min size (s - n) ≡ size = omega arith in
@@ -125,15 +125,15 @@ module _ (n size s t : ℕ) (x : DecodeTs) where
   cut_header h = let k : min size (s - n) ≤ min size (t - n) = omega arith in omega arith
 
   -- a stamp stands with a run that reaches s
-  cut_stamped : (v : ℕ) → (cut n size s t x).decode_ts ≡ DecodeTs.At v → (n < s) × (s ≤ n + size) × (x ≡ DecodeTs.At v)
+  cut_stamped : (v : ℕ) → (cut n size s t x).decode_ts ≡ Some v → (n < s) × (s ≤ n + size) × (x ≡ Some v)
   unfolding cut
   cut_stamped v e = go (ltb n s) refl (leb s (n + size)) refl e
     where
-      go : (a : Bool) → ltb n s ≡ a → (b : Bool) → leb s (n + size) ≡ b → cond (a && b) x DecodeTs.Absent ≡ DecodeTs.At v
-          → (n < s) × (s ≤ n + size) × (x ≡ DecodeTs.At v)
+      go : (a : Bool) → ltb n s ≡ a → (b : Bool) → leb s (n + size) ≡ b → cond (a && b) x None ≡ Some v
+          → (n < s) × (s ≤ n + size) × (x ≡ Some v)
       go true a true b e = (ltb-true n s a, leb-true s (n + size) b, e)
-      go true a false b e = absurd (let z : ◌≡◌ {A = ℕ} 0 1 = cc in omega arith)
-      go false a c b e = absurd (let z : ◌≡◌ {A = ℕ} 0 1 = cc in omega arith)
+      go true a false b e = cc
+      go false a c b e = cc
 
 -- The runs of a payload of so many bytes, the last of the unit u's so far.
 module _ (u : List ℕ) (size : ℕ) (h : size ≤ length u) where
@@ -141,7 +141,7 @@ module _ (u : List ℕ) (size : ℕ) (h : size ≤ length u) where
   before = length u - size
 
   -- a payload that ends before the stamp's run does: one run without a stamp
-  pub unfinished : length u < stamp_end u → runs_of u size ≡ record { head = size; decode_ts = DecodeTs.Absent; rest = 0; body = 0 }
+  pub unfinished : length u < stamp_end u → runs_of u size ≡ record { head = size; decode_ts = None; rest = 0; body = 0 }
   unfolding runs_of
   unfinished k = cut_before before size (stamp_end u) (content_begin u) (stamp_of u) (omega arith) (ordered u)
 
@@ -155,13 +155,13 @@ module _ (u : List ℕ) (size : ℕ) (h : size ≤ length u) where
   has_stamp a b = cut_stamp before size (stamp_end u) (content_begin u) (stamp_of u) a (omega arith)
 
   -- no other run has one, and one that has it is not empty
-  pub stamped : (v : ℕ) → (runs_of u size).decode_ts ≡ DecodeTs.At v → (before < stamp_end u) × (stamp_end u ≤ length u) × (stamp_of u ≡ DecodeTs.At v)
+  pub stamped : (v : ℕ) → (runs_of u size).decode_ts ≡ Some v → (before < stamp_end u) × (stamp_end u ≤ length u) × (stamp_of u ≡ Some v)
   unfolding runs_of
   stamped v e =
       let r = cut_stamped before size (stamp_end u) (content_begin u) (stamp_of u) v e in
       (r.0, omega (arith, r.1), r.2)
 
-  pub stamped_nonempty : (v : ℕ) → (runs_of u size).decode_ts ≡ DecodeTs.At v → 0 < (runs_of u size).head
+  pub stamped_nonempty : (v : ℕ) → (runs_of u size).decode_ts ≡ Some v → 0 < (runs_of u size).head
   stamped_nonempty v e = let r = stamped v e in omega (arith, ends_there r.0 r.1)
 
   -- the header's rest is the bytes from there up to the content, and the body what follows
@@ -183,7 +183,7 @@ module _ (u : List ℕ) where
   unfolding content_begin content_begin_by
   short_content t = rw t
 
-  pub short_stamp : optional_header u ≡ false → stamp_of u ≡ DecodeTs.Absent
+  pub short_stamp : optional_header u ≡ false → stamp_of u ≡ None
   unfolding stamp_of decode_ts_by
   short_stamp t = rw t
 
@@ -216,34 +216,34 @@ module _ (u : List ℕ) where
     pub room : 10 ≤ header_data_length u
     pub value : v ≡ dts u
 
-  pub has_pts : (v : ℕ) → Pts v → stamp_of u ≡ DecodeTs.At v
+  pub has_pts : (v : ℕ) → Pts v → stamp_of u ≡ Some v
   unfolding stamp_of decode_ts_by
   has_pts v h = rw (h.optional, h.flags, le-leb _ _ h.room, h.value)
 
-  pub has_dts : (v : ℕ) → Dts v → stamp_of u ≡ DecodeTs.At v
+  pub has_dts : (v : ℕ) → Dts v → stamp_of u ≡ Some v
   unfolding stamp_of decode_ts_by
   has_dts v h = rw (h.optional, h.flags, le-leb _ _ h.room, h.value)
 
-  pub stamp_from_lem : (v : ℕ) → stamp_of u ≡ DecodeTs.At v → Pts v ⊎ Dts v
+  pub stamp_from_lem : (v : ℕ) → stamp_of u ≡ Some v → Pts v ⊎ Dts v
   unfolding stamp_of decode_ts_by
   stamp_from_lem v = go (optional_header u) refl (eqb (pts_dts_flags u) 2) refl (eqb (pts_dts_flags u) 3) refl (leb 5 (header_data_length u)) refl (leb 10 (header_data_length u)) refl
     where
       go : (o : Bool) → optional_header u ≡ o → (a : Bool) → eqb (pts_dts_flags u) 2 ≡ a → (b : Bool) → eqb (pts_dts_flags u) 3 ≡ b
           → (c : Bool) → leb 5 (header_data_length u) ≡ c → (d : Bool) → leb 10 (header_data_length u) ≡ d
-          → cond o (cond a (cond c (DecodeTs.At (pts u)) DecodeTs.Absent) (cond b (cond d (DecodeTs.At (dts u)) DecodeTs.Absent) DecodeTs.Absent)) DecodeTs.Absent ≡ DecodeTs.At v
+          → cond o (cond a (cond c (Some (pts u)) None) (cond b (cond d (Some (dts u)) None) None)) None ≡ Some v
           → Pts v ⊎ Dts v
       go true o true a b _ true c d _ e = inl (record { optional = o; flags = eqb-true _ _ a; room = leb-true _ _ c; value = cc })
       go true o false a true b c _ true d e = inr (record { optional = o; flags = eqb-true _ _ b; room = leb-true _ _ d; value = cc })
-      go true o true a b _ false c d _ e = absurd (let z : ◌≡◌ {A = ℕ} 0 1 = cc in omega arith)
-      go true o false a true b c _ false d e = absurd (let z : ◌≡◌ {A = ℕ} 0 1 = cc in omega arith)
-      go true o false a false b c _ d _ e = absurd (let z : ◌≡◌ {A = ℕ} 0 1 = cc in omega arith)
-      go false o a _ b _ c _ d _ e = absurd (let z : ◌≡◌ {A = ℕ} 0 1 = cc in omega arith)
+      go true o true a b _ false c d _ e = cc
+      go true o false a true b c _ false d e = cc
+      go true o false a false b c _ d _ e = cc
+      go false o a _ b _ c _ d _ e = cc
 
   -- '11' with a header length under 10 gives none, also where the PTS is there
-  pub dts_cut_off : optional_header u ≡ true → pts_dts_flags u ≡ 3 → header_data_length u < 10 → stamp_of u ≡ DecodeTs.Absent
+  pub dts_cut_off : optional_header u ≡ true → pts_dts_flags u ≡ 3 → header_data_length u < 10 → stamp_of u ≡ None
   unfolding stamp_of decode_ts_by
   dts_cut_off t f h = rw (t, f, lt-leb 10 (header_data_length u) h)
 
   -- a stamp has 33 bits
-  pub stamp_bound : (v : ℕ) → stamp_of u ≡ DecodeTs.At v → v < 2 ^ 33
+  pub stamp_bound : (v : ℕ) → stamp_of u ≡ Some v → v < 2 ^ 33
   stamp_bound v e = ⊎_elim (λ q. rw (q.value, pts_bytes u q.flags) (timestamp_bound _)) (λ q. rw (q.value, dts_bytes u q.flags) (timestamp_bound _)) (stamp_from_lem v e)

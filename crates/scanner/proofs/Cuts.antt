@@ -1,5 +1,6 @@
 -- The two cuts of a unit and its time stamp: their order and bounds, which bytes they look at, and that they stay as more bytes come.
 -- Assumes nothing.
+use Rattle.std.specs.Prelude.{Some}
 use mathlib.Core.Path.{◌≡◌, refl, sym, ◌∙◌, ap}
 use mathlib.Core.Bool.{Bool, true, false, cond}
 use mathlib.Core.List.{List, [], ◌∷◌, ◌++◌}
@@ -17,7 +18,6 @@ use Rattle.syntax.proofs.Bits.{within}
 use Rattle.syntax.proofs.TimeStamp.{timestamp_five}
 use Rattle.syntax.proofs.Pes.{places, stream_id, pts_dts_flags as flags_read, pes_header_data_length, pts_10, dts_11}
 use Rattle.pes.specs.StreamId.{has_optional_header}
-use Rattle.scanner.specs.declared.DecodeTs.{DecodeTs}
 use Rattle.scanner.specs.Unit.{optional_header, pts_dts_flags, header_data_length, stamp_bytes, stamp_end_by, content_begin_by, decode_ts_by, stamp_end, content_begin, stamp_of}
 use Rattle.scanner.specs.declared.PesHeader.{PesHeader}
 use Rattle.scanner.specs.Joined.{listed}
@@ -52,9 +52,9 @@ unfolding decode_ts_by
 stamp_same o flags len p q d e hp hd =
     cond_same o
     (λ t. cond_same (eqb flags 2)
-    (λ f. cond_same (leb 5 len) (λ l. ap DecodeTs.At (hp t (eqb-true flags 2 f) (leb-true 5 len l))) (λ _. refl))
+    (λ f. cond_same (leb 5 len) (λ l. ap Some (hp t (eqb-true flags 2 f) (leb-true 5 len l))) (λ _. refl))
     (λ _. cond_same (eqb flags 3)
-    (λ f. cond_same (leb 10 len) (λ l. ap DecodeTs.At (hd t (eqb-true flags 3 f) (leb-true 10 len l))) (λ _. refl))
+    (λ f. cond_same (leb 10 len) (λ l. ap Some (hd t (eqb-true flags 3 f) (leb-true 10 len l))) (λ _. refl))
     (λ _. refl)))
     (λ _. refl)
 

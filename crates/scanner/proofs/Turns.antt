@@ -1,5 +1,6 @@
 -- The outer loop of the Rust's scanner behind the stamp's run, and the cuts' runs in the same cases.
 -- Assumes nothing.
+use Rattle.std.specs.Prelude.{Option, None}
 use mathlib.Core.Path.{◌≡◌, refl, sym, ◌∙◌, ap}
 use mathlib.Core.List.{List, [], ◌∷◌, ◌++◌}
 use mathlib.Core.Logic.{◌⊎◌, inl, inr}
@@ -9,7 +10,6 @@ use native.Mathlib.Omega.{arith}
 use lib.ListN.{length, drop, length-drop}
 use lib.Seq.{drop-length}
 use borrow.Author.Tests.{lt-ltb, le-ltb, le-leb}
-use Rattle.scanner.specs.declared.DecodeTs.{DecodeTs}
 use Rattle.scanner.specs.Unit.{cut}
 use Rattle.scanner.specs.ByteScanner.{ByteScanner, ByteFed, turns}
 use Rattle.scanner.specs.Classified.{ClassifiedRun, header_run, payload_run, some_run}
@@ -41,7 +41,7 @@ abbrev pub pending_at : ℕ → ℕ → List ℕ → ℕ → ByteFed
 pending_at q pos buf l =
     record {
       scanner = sized_at (q - l) buf;
-      runs = some_run (header_run pos (min q l) DecodeTs.Absent) ++ some_run (payload_run (pos + min q l) (l - min q l));
+      runs = some_run (header_run pos (min q l) None) ++ some_run (payload_run (pos + min q l) (l - min q l));
     }
 
 none_pending : (q pos l : ℕ) (buf : List ℕ) → q ≡ 0 → record { scanner = sized_at q buf; runs = some_run (payload_run pos l) } ≡ pending_at q pos buf l
@@ -57,7 +57,7 @@ module _ (k q pos : ℕ) (p buf : List ℕ) (pos-q : 0 < q) where
   rests = turns k (sized_at (q - min q (length p)) buf) (pos + min q (length p)) (drop (min q (length p)) p)
 
   abbrev goal : Type 0
-  goal = record { scanner = rests.scanner; runs = header_run pos (min q (length p)) DecodeTs.Absent ∷ rests.runs } ≡ pending_at q pos buf (length p)
+  goal = record { scanner = rests.scanner; runs = header_run pos (min q (length p)) None ∷ rests.runs } ≡ pending_at q pos buf (length p)
 
   goes_on : 0 < length p → length p ≤ q → goal
   goes_on h l =
@@ -68,7 +68,7 @@ module _ (k q pos : ℕ) (p buf : List ℕ) (pos-q : 0 < q) where
         drop-length p,
         turns_nil k (sized_at (q - length p) buf) (pos + length p),
         z,
-        one_run (header_run pos (length p) DecodeTs.Absent) h,
+        one_run (header_run pos (length p) None) h,
       )
 
   ends_in : q < length p → length p - q ≤ k → goal
@@ -83,7 +83,7 @@ module _ (k q pos : ℕ) (p buf : List ℕ) (pos-q : 0 < q) where
         payload_turns k (drop q p) (pos + q) buf (omega arith),
         n,
         d,
-        one_run (header_run pos q DecodeTs.Absent) pos-q,
+        one_run (header_run pos q None) pos-q,
       )
 
 some_pending : (k : ℕ) (p : List ℕ) (q pos : ℕ) (buf : List ℕ) → length p ≤ k → 0 < q
@@ -120,7 +120,7 @@ body_from : (size d e : ℕ) → d ≤ size → size - min size (d + e) ≡ size
 body_from size d e h = omega arith
 
 -- The two cuts' runs at a payload that reaches the stamp's end, and at one behind it.
-module _ (n size s t : ℕ) (x : DecodeTs) (o : s ≤ t) where
+module _ (n size s t : ℕ) (x : Option ℕ) (o : s ≤ t) where
   pub reach_cut : n < s → s ≤ n + size
       → cut n size s t x
       ≡ record {
@@ -136,7 +136,7 @@ module _ (n size s t : ℕ) (x : DecodeTs) (o : s ≤ t) where
       let c : s - n ≤ size = omega arith in
       rw (a, b, rest_from size (s - n) (t - s) c, body_from size (s - n) (t - s) c, lt-ltb n s h, le-leb s (n + size) k)
 
-  pub behind_cut : s ≤ n → cut n size s t x ≡ record { head = 0; decode_ts = DecodeTs.Absent; rest = min (t - n) size; body = size - min (t - n) size }
+  pub behind_cut : s ≤ n → cut n size s t x ≡ record { head = 0; decode_ts = None; rest = min (t - n) size; body = size - min (t - n) size }
   unfolding cut
   behind_cut h =
       let a : min size (s - n) ≡ 0 = omega arith in

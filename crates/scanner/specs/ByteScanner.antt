@@ -1,9 +1,8 @@
 -- The Rust's own scanner (tstd.rs, `PesScanner::feed`), step by step: header bytes are collected one at a time until the header's length
 -- is known. The definition of the runs by two cuts gives the same answers (proofs/Bytewise.antt).
-use Rattle.std.specs.Prelude.{ℕ, zero, suc, ◌+◌, ◌-◌, ◌/◌, ◌<◌, min, ◌≡◌, List, [], ◌∷◌, ◌++◌, Bool, true, false, cond, ◌&&◌, length, get_or, take, drop, ltb, leb, eqb}
+use Rattle.std.specs.Prelude.{ℕ, zero, suc, ◌+◌, ◌-◌, ◌/◌, ◌<◌, min, ◌≡◌, List, [], ◌∷◌, ◌++◌, Bool, true, false, cond, ◌&&◌, length, get_or, take, drop, ltb, leb, eqb, Option, Some, None}
 use Rattle.syntax.specs.TimeStamp.{timestamp}
 use Rattle.pes.specs.StreamId.{has_optional_header}
-use Rattle.scanner.specs.declared.DecodeTs.{DecodeTs}
 use Rattle.scanner.specs.declared.Runs.{Runs}
 use Rattle.scanner.specs.declared.PesScanner.{PesScanner}
 use Rattle.scanner.specs.Classified.{ClassifiedRun, header_run, payload_run}
@@ -25,7 +24,7 @@ byte_start = record { header_pending = 0; header_buf = []; sizing = true; starte
 -- what the collected bytes say once one more is there: collect on, or header_pending and decode_ts
 pub data Sizing : Type 0 where
   continue : Sizing
-  resolved : ℕ → DecodeTs → Sizing
+  resolved : ℕ → Option ℕ → Sizing
 
 abbrev pub ts_want : ℕ → ℕ
 ts_want top = cond (eqb top 2) 5 (cond (eqb top 3) 10 0)
@@ -34,9 +33,9 @@ ts_want top = cond (eqb top 2) 5 (cond (eqb top 3) 10 0)
 abbrev pub ts33_at : List ℕ → ℕ → ℕ
 ts33_at buf k = timestamp (take 5 (drop k buf))
 
-abbrev pub ts_coded : List ℕ → ℕ → ℕ → DecodeTs
+abbrev pub ts_coded : List ℕ → ℕ → ℕ → Option ℕ
 ts_coded buf top len =
-    cond (eqb top 2 && leb 5 len) (DecodeTs.At (ts33_at buf 9)) (cond (eqb top 3 && leb 10 len) (DecodeTs.At (ts33_at buf 14)) DecodeTs.Absent)
+    cond (eqb top 2 && leb 5 len) (Some (ts33_at buf 9)) (cond (eqb top 3 && leb 10 len) (Some (ts33_at buf 14)) None)
 
 unfoldable pub sizing_of : List ℕ → Sizing
 sizing_of buf =
@@ -45,13 +44,13 @@ sizing_of buf =
     (cond (ltb (length buf) 9) continue
     (cond (ltb (length buf) (9 + min (get_or buf 8 0) (ts_want (get_or buf 7 0 / 64)))) continue
     (resolved (9 + get_or buf 8 0 - length buf) (ts_coded buf (get_or buf 7 0 / 64) (get_or buf 8 0)))))
-    (resolved 0 DecodeTs.Absent))
+    (resolved 0 None))
 
 -- the inner loop, over what is left of the payload: the state behind it, the bytes it took and its decode_ts
 pub record Collected : Type 0 where
   pub scanner : ByteScanner
   pub taken : ℕ
-  pub stamp : DecodeTs
+  pub stamp : Option ℕ
 
 abbrev pub collecting : ByteScanner → List ℕ → ByteScanner
 collecting s buf = record { header_pending = s.header_pending; header_buf = buf; sizing = true; started = s.started }
@@ -59,12 +58,12 @@ collecting s buf = record { header_pending = s.header_pending; header_buf = buf;
 abbrev pub sized_to : ByteScanner → List ℕ → ℕ → ByteScanner
 sized_to s buf k = record { header_pending = k; header_buf = buf; sizing = false; started = s.started }
 
-abbrev pub after_byte : Sizing → Collected → (ℕ → DecodeTs → Collected) → Collected
+abbrev pub after_byte : Sizing → Collected → (ℕ → Option ℕ → Collected) → Collected
 after_byte continue c d = c
 after_byte (resolved k ts) c d = d k ts
 
 unfoldable pub collect : ByteScanner → List ℕ → ℕ → Collected
-collect s [] n = record { scanner = s; taken = n; stamp = DecodeTs.Absent }
+collect s [] n = record { scanner = s; taken = n; stamp = None }
 collect s (b ∷ p) n =
     after_byte (sizing_of (s.header_buf ++ (b ∷ [])))
     (collect (collecting s (s.header_buf ++ (b ∷ []))) p (suc n))
@@ -90,7 +89,7 @@ turns (suc k) s pos (b ∷ p) =
     cond s.sizing
     (pushed (header_run pos c.taken c.stamp) (turns k c.scanner (pos + c.taken) (drop c.taken (b ∷ p))))
     (cond (ltb 0 s.header_pending)
-    (pushed (header_run pos n DecodeTs.Absent) (turns k (pending s (s.header_pending - n)) (pos + n) (drop n (b ∷ p))))
+    (pushed (header_run pos n None) (turns k (pending s (s.header_pending - n)) (pos + n) (drop n (b ∷ p))))
     (pushed (payload_run pos (length (b ∷ p))) (turns k s (pos + length (b ∷ p)) [])))
 
 unfoldable pub byte_feed : ByteScanner → Bool → List ℕ → ByteFed

@@ -1,6 +1,5 @@
 -- The payloads of document 01 at a start, and their runs.
-use Rattle.std.specs.Prelude.{ℕ, List, [], ◌∷◌}
-use Rattle.scanner.specs.declared.DecodeTs.{DecodeTs}
+use Rattle.std.specs.Prelude.{ℕ, List, [], ◌∷◌, Some, None}
 use Rattle.scanner.specs.declared.Runs.{Runs}
 
 pub record Figure : Type 0 where
@@ -12,6 +11,6 @@ payload_with n = 0x00 ∷ 0x00 ∷ 0x01 ∷ 0xE0 ∷ 0x00 ∷ 0x00 ∷ 0x80 ∷ 
 
 abbrev pub figures : List Figure
 figures =
-    record { payload = payload_with 5; runs = record { head = 14; decode_ts = DecodeTs.At 90000; rest = 0; body = 2 } }
-    ∷ record { payload = payload_with 4; runs = record { head = 13; decode_ts = DecodeTs.Absent; rest = 0; body = 3 } }
+    record { payload = payload_with 5; runs = record { head = 14; decode_ts = Some 90000; rest = 0; body = 2 } }
+    ∷ record { payload = payload_with 4; runs = record { head = 13; decode_ts = None; rest = 0; body = 3 } }
     ∷ []

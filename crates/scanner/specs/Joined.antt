@@ -1,8 +1,7 @@
 -- What private functions of the scanner answer: bytes of a unit that are kept or come with the payload, and the stamp of a header's
 -- bytes. No public contract cites these.
-use Rattle.std.specs.Prelude.{ℕ, ◌+◌, ◌-◌, ◌/◌, List, [], ◌∷◌, Bool, true, cond, ◌&&◌, get_or, ltb, leb}
+use Rattle.std.specs.Prelude.{ℕ, ◌+◌, ◌-◌, ◌/◌, List, [], ◌∷◌, Bool, true, cond, ◌&&◌, get_or, ltb, leb, Option, None}
 use Rattle.syntax.specs.TimeStamp.{timestamp}
-use Rattle.scanner.specs.declared.DecodeTs.{DecodeTs}
 use Rattle.scanner.specs.declared.StampBytes.{StampBytes}
 use Rattle.scanner.specs.declared.PesHeader.{PesHeader}
 use Rattle.pes.specs.StreamId.{has_optional_header}
@@ -27,12 +26,12 @@ stamp_at f n i p =
 abbrev pub listed : StampBytes → List ℕ
 listed b = b.b0 ∷ b.b1 ∷ b.b2 ∷ b.b3 ∷ b.b4 ∷ []
 
-unfoldable pub decode_ts_in : Bool → ℕ → PesHeader → DecodeTs
+unfoldable pub decode_ts_in : Bool → ℕ → PesHeader → Option ℕ
 decode_ts_in optional flags h =
     decode_ts_by optional flags h.header_data_length (timestamp (listed h.pts)) (timestamp (listed h.dts))
 
-unfoldable pub stamp_here : ℕ → ℕ → ℕ → DecodeTs → DecodeTs
-stamp_here n size s stamp = cond (ltb n s && leb s (n + size)) stamp DecodeTs.Absent
+unfoldable pub stamp_here : ℕ → ℕ → ℕ → Option ℕ → Option ℕ
+stamp_here n size s stamp = cond (ltb n s && leb s (n + size)) stamp None
 
 unfoldable pub cuts_by : PesHeader → UnitCuts
 cuts_by h =

@@ -1,6 +1,5 @@
 -- What the scanner keeps of a stream's open unit, and its step: the runs of a payload, and what is kept behind it.
-use Rattle.std.specs.Prelude.{ℕ, ◌+◌, List, [], ◌∷◌, ◌++◌, Bool, true, false, cond, ◌&&◌, length, get_or, take, replicate, ltb, leb}
-use Rattle.scanner.specs.declared.DecodeTs.{DecodeTs}
+use Rattle.std.specs.Prelude.{ℕ, ◌+◌, List, [], ◌∷◌, ◌++◌, Bool, true, false, cond, ◌&&◌, length, get_or, take, replicate, ltb, leb, None}
 use Rattle.scanner.specs.declared.Runs.{Runs}
 use Rattle.scanner.specs.declared.StampBytes.{StampBytes}
 use Rattle.scanner.specs.declared.PesHeader.{PesHeader}
@@ -39,7 +38,7 @@ in_header s = s.started && ltb s.count header_limit
 
 -- a payload of content alone
 abbrev pub only_body : ℕ → Runs
-only_body n = record { head = 0; decode_ts = DecodeTs.Absent; rest = 0; body = n }
+only_body n = record { head = 0; decode_ts = None; rest = 0; body = n }
 
 -- the runs of n bytes that start no unit and have no header bytes: content, or none before the first unit
 unfoldable pub unfed_runs : PesScanner → ℕ → Runs

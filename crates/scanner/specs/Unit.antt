@@ -1,10 +1,9 @@
 -- A PES unit of a stream by its bytes (H.222.0, table 2-21; document 01, scanner): where the run of its time stamp ends, where its
 -- content begins, its time stamp, and the runs of a payload. A byte that has not come yet reads as 0.
-use Rattle.std.specs.Prelude.{ℕ, ◌+◌, ◌-◌, min, List, [], ◌++◌, Bool, true, false, cond, ◌&&◌, length, ltb, leb, eqb}
+use Rattle.std.specs.Prelude.{ℕ, ◌+◌, ◌-◌, min, List, [], ◌++◌, Bool, true, false, cond, ◌&&◌, length, ltb, leb, eqb, Option, Some, None}
 use Rattle.syntax.specs.Table.{field}
 use Rattle.syntax.specs.Pes.{table_2_21, pts, dts}
 use Rattle.pes.specs.StreamId.{has_optional_header}
-use Rattle.scanner.specs.declared.DecodeTs.{DecodeTs}
 use Rattle.scanner.specs.declared.Runs.{Runs}
 
 -- the fields that decide: whether the optional header is there, PTS_DTS_flags and PES_header_data_length
@@ -28,12 +27,12 @@ stamp_end_by optional flags len = cond optional (9 + min len (stamp_bytes flags)
 unfoldable pub content_begin_by : Bool → ℕ → ℕ
 content_begin_by optional len = cond optional (9 + len) 6
 
-unfoldable pub decode_ts_by : Bool → ℕ → ℕ → ℕ → ℕ → DecodeTs
+unfoldable pub decode_ts_by : Bool → ℕ → ℕ → ℕ → ℕ → Option ℕ
 decode_ts_by optional flags len p d =
     cond optional
-    (cond (eqb flags 2) (cond (leb 5 len) (DecodeTs.At p) DecodeTs.Absent)
-    (cond (eqb flags 3) (cond (leb 10 len) (DecodeTs.At d) DecodeTs.Absent) DecodeTs.Absent))
-    DecodeTs.Absent
+    (cond (eqb flags 2) (cond (leb 5 len) (Some p) None)
+    (cond (eqb flags 3) (cond (leb 10 len) (Some d) None) None))
+    None
 
 -- the same of a unit's bytes
 unfoldable pub stamp_end : List ℕ → ℕ
@@ -42,15 +41,15 @@ stamp_end u = stamp_end_by (optional_header u) (pts_dts_flags u) (header_data_le
 unfoldable pub content_begin : List ℕ → ℕ
 content_begin u = content_begin_by (optional_header u) (header_data_length u)
 
-unfoldable pub stamp_of : List ℕ → DecodeTs
+unfoldable pub stamp_of : List ℕ → Option ℕ
 stamp_of u = decode_ts_by (optional_header u) (pts_dts_flags u) (header_data_length u) (pts u) (dts u)
 
 -- the runs of so many bytes behind the first n of a unit, cut at its bytes s and t; the stamp goes with the run that reaches s
-unfoldable pub cut : ℕ → ℕ → ℕ → ℕ → DecodeTs → Runs
+unfoldable pub cut : ℕ → ℕ → ℕ → ℕ → Option ℕ → Runs
 cut n size s t stamp =
     record {
       head = min size (s - n);
-      decode_ts = cond (ltb n s && leb s (n + size)) stamp DecodeTs.Absent;
+      decode_ts = cond (ltb n s && leb s (n + size)) stamp None;
       rest = min size (t - n) - min size (s - n);
       body = size - min size (t - n);
     }
@@ -60,7 +59,7 @@ unfoldable pub runs_of : List ℕ → ℕ → Runs
 runs_of u size = cut (length u - size) size (stamp_end u) (content_begin u) (stamp_of u)
 
 abbrev pub no_runs : Runs
-no_runs = record { head = 0; decode_ts = DecodeTs.Absent; rest = 0; body = 0 }
+no_runs = record { head = 0; decode_ts = None; rest = 0; body = 0 }
 
 -- a stream's open unit, by its bytes so far
 pub data Open : Type 0 where

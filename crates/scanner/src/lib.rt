@@ -2,29 +2,24 @@
 // The Rust's `PesScanner` by value; a payload gives at most three runs, and no loop goes over its bytes.
 #![tactic(auto)]
 
-ghost use Rattle.std.specs.Prelude.{◌≡◌, false, [], ◌++◌, ◌+◌, ◌-◌, ◌<◌, ◌≤◌, min};
+ghost use Rattle.std.specs.Prelude.{◌≡◌, Some, false, [], ◌++◌, ◌+◌, ◌-◌, ◌<◌, ◌≤◌, min};
 ghost use Rattle.scanner.specs.Unit.{stamp_bytes, stamp_end_by, content_begin_by, cut, unit};
 ghost use Rattle.syntax.specs.TimeStamp.{timestamp};
 ghost use Rattle.scanner.specs.Joined.{byte_at, stamp_at, listed, decode_ts_in, stamp_here, cuts_by, kept_from, begun_at};
 ghost use Rattle.scanner.specs.State.{header_limit, header_of, idle, in_content, in_header, only_body, unfed_runs, unit_with, open_of, fed_of};
 
-// The decode time that a header announces: 33 bits at 90 kHz, the DTS where it is coded, else the PTS.
-#[derive(Clone, Copy)]
-pub enum DecodeTs {
-    Absent,
-    At(u64),
-}
-
 // The runs of a payload by their lengths, in its order: the header up to its stamp's end, with the stamp; the rest of the header;
-// content. A run of no bytes is none.
+// content. A run of no bytes is none. The stamp is the decode time that the header announces: 33 bits at 90 kHz, the DTS where it is
+// coded, else the PTS.
 #[derive(Clone, Copy)]
 pub struct Runs {
     pub head: usize,
-    pub decode_ts: DecodeTs,
+    pub decode_ts: Option<u64>,
     pub rest: usize,
     pub body: usize,
 }
 
+// A struct and not an array: an array field would bring its length as a fact that every definition has to carry.
 #[derive(Clone, Copy)]
 pub struct StampBytes {
     pub b0: u8,
@@ -57,7 +52,7 @@ pub struct PesScanner {
 struct UnitCuts {
     stamp_end: usize,
     content_begin: usize,
-    stamp: DecodeTs,
+    stamp: Option<u64>,
 }
 
 #[derive(Clone, Copy)]
@@ -156,13 +151,13 @@ fn content_begin(optional: bool, length: u8) -> usize
     if optional { 9 + size(length) } else { 6 }
 }
 
-fn stamp(b: StampBytes) -> DecodeTs
-    ensures { result ≡ DecodeTs.At (timestamp (listed b)) }
+fn stamp(b: StampBytes) -> Option<u64>
+    ensures { result ≡ Some (timestamp (listed b)) }
 {
-    DecodeTs::At(pes::read_ts33(b.b0, b.b1, b.b2, b.b3, b.b4))
+    Some(pes::read_ts33([b.b0, b.b1, b.b2, b.b3, b.b4]))
 }
 
-fn decode_ts(optional: bool, flags: u8, h: PesHeader) -> DecodeTs
+fn decode_ts(optional: bool, flags: u8, h: PesHeader) -> Option<u64>
     ensures { result ≡ decode_ts_in optional flags h }
 {
     if optional {
@@ -171,34 +166,34 @@ fn decode_ts(optional: bool, flags: u8, h: PesHeader) -> DecodeTs
                 let pts = h.pts;
                 return stamp(pts);
             }
-            return DecodeTs::Absent;
+            return None;
         }
         if flags == 3 {
             if 10 <= h.header_data_length {
                 let dts = h.dts;
                 return stamp(dts);
             }
-            return DecodeTs::Absent;
+            return None;
         }
-        return DecodeTs::Absent;
+        return None;
     }
-    DecodeTs::Absent
+    None
 }
 
 // The stamp, if the run of so many bytes behind the first n reaches s.
-fn stamp_here(n: usize, size: usize, s: usize, stamp: DecodeTs) -> DecodeTs
+fn stamp_here(n: usize, size: usize, s: usize, stamp: Option<u64>) -> Option<u64>
     ensures { result ≡ stamp_here n size s stamp }
 {
     if n < s {
         if s - n <= size {
             return stamp;
         }
-        return DecodeTs::Absent;
+        return None;
     }
-    DecodeTs::Absent
+    None
 }
 
-fn cut_runs(n: usize, size: usize, s: usize, t: usize, stamp: DecodeTs) -> Runs
+fn cut_runs(n: usize, size: usize, s: usize, t: usize, stamp: Option<u64>) -> Runs
     ensures { result ≡ cut n size s t stamp }
 {
     let head = lesser(size, beyond(s, n));
@@ -320,7 +315,7 @@ fn only(body: usize) -> Runs
 {
     Runs {
         head: 0,
-        decode_ts: DecodeTs::Absent,
+        decode_ts: None,
         rest: 0,
         body,
     }
