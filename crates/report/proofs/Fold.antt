@@ -13,7 +13,7 @@ use Rattle.report.specs.declared.violation.Key.{Key}
 use Rattle.report.specs.declared.violation.TStdViolation.{TStdViolation}
 use Rattle.report.specs.declared.ViolationLine.{ViolationLine}
 use Rattle.report.specs.declared.TStdReport.{TStdReport}
-use Rattle.report.specs.declared.RecordAnswer.TheVariants.{Done, Refused}
+use Rattle.std.specs.Prelude.{Ok, Err}
 use Rattle.report.specs.Violation.{key_of, same_key, merge_of}
 use Rattle.report.specs.Keys.{has_key, all_in, distinct, add_key}
 use Rattle.report.specs.Report.{empty_report, conformant}
@@ -46,11 +46,11 @@ line_there ls v = some (add_key (keys_of ls) (key_of v)) (has_added (keys_of ls)
 -- ---- one event
 
 module _ (r : TStdReport) (v : TStdViolation) where
-  pub refused : refuses r v ≡ true → recorded r v ≡ record { answer = Refused Refusal.OutsideLimits; report = r }
+  pub refused : refuses r v ≡ true → recorded r v ≡ record { answer = Err Refusal.OutsideLimits; report = r }
   unfolding recorded
   refused h = rw h
 
-  pub accepted : refuses r v ≡ false → recorded r v ≡ record { answer = Done; report = with_lines r (record_line (lines_of r) v) }
+  pub accepted : refuses r v ≡ false → recorded r v ≡ record { answer = Ok tt; report = with_lines r (record_line (lines_of r) v) }
   unfolding recorded
   accepted h = rw h
 

@@ -1,6 +1,5 @@
 -- The laws of violations and of the report, which callers cite.
 pub mod Bools
-pub mod Tags
 pub mod Keys
 pub mod Merge
 pub mod Lines

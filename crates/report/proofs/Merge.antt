@@ -1,6 +1,7 @@
 -- Laws of merging: all but the figure is the first's, the figure is the worse of the two, and merging is associative among violations of one kind.
 use mathlib.Core.Path.{◌≡◌, refl, sym, ap, ◌∙◌}
 use mathlib.Core.Bool.{Bool, true, false}
+use mathlib.Core.List.{List, [], ◌∷◌}
 use Prim.Native.Nat.{ℕ, max, ◌≤◌}
 use native.Mathlib.Nat.{max-eq_left, max-eq_right}
 use native.Mathlib.Omega.{arith}
@@ -16,7 +17,6 @@ use Rattle.report.specs.declared.violation.TStdViolation.TheVariants.{TbOverflow
 use Rattle.report.specs.Violation.{fields_of, key_of, worse, bytes_or, seconds_or, with_figure, merge_of, FigureHas, FieldsHave}
 use Rattle.report.proofs.Bools.{true_false}
 use Rattle.ieee.proofs.MaxAssociative.{max_assoc, max_holds}
-use Rattle.report.proofs.Tags.{bytes_tags}
 
 -- ---- figures: in bytes, or in seconds
 
@@ -61,8 +61,12 @@ worse_has B S (Seconds s) (Seconds t) p q = max_holds S s t p q
 
 -- ---- a violation with another figure
 
+-- the kinds whose figure is in bytes
+abbrev bytes_kinds : List ℕ
+bytes_kinds = 0 ∷ 2 ∷ 3 ∷ 4 ∷ 6 ∷ 8 ∷ []
+
 -- the sort of the figure goes by the kind
-sort_kind : (v : TStdViolation) → in_bytes? (fields_of v).figure ≡ has_key bytes_tags (fields_of v).kind
+sort_kind : (v : TStdViolation) → in_bytes? (fields_of v).figure ≡ has_key bytes_kinds (fields_of v).kind
 unfolding fields_of
 sort_kind (TbOverflow p x) = refl
 sort_kind (TbBusyOverOneSecond p x) = refl
@@ -75,7 +79,7 @@ sort_kind (DelayOverOneSecond p t x) = refl
 sort_kind (BsysOverflow x) = refl
 
 pub same_sort : (a b : TStdViolation) → (fields_of a).kind ≡ (fields_of b).kind → in_bytes? (fields_of b).figure ≡ in_bytes? (fields_of a).figure
-same_sort a b e = sort_kind b ∙ ap (has_key bytes_tags) (sym e) ∙ sym (sort_kind a)
+same_sort a b e = sort_kind b ∙ ap (has_key bytes_kinds) (sym e) ∙ sym (sort_kind a)
 
 abbrev pub fields_with : ViolationFields → Figure → ViolationFields
 fields_with r f = record { kind = r.kind; pid = r.pid; limit = r.limit; decode_time = r.decode_time; figure = f }
@@ -120,7 +124,7 @@ module _ (a b : TStdViolation) where
   unfolding merge_of
   merge_unlike e = rw e
 
-  merge_like : (fields_of a).kind ≡ (fields_of b).kind → merge_of a b ≡ with_figure a (worse (fields_of a).figure (fields_of b).figure)
+  pub merge_like : (fields_of a).kind ≡ (fields_of b).kind → merge_of a b ≡ with_figure a (worse (fields_of a).figure (fields_of b).figure)
   unfolding merge_of
   merge_like e = rw (eq-eqb (fields_of a).kind (fields_of b).kind e)
 

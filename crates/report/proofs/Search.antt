@@ -2,19 +2,19 @@
 use mathlib.Core.Path.{◌≡◌, refl, sym, ap, ◌∙◌}
 use mathlib.Core.Bool.{Bool, true, false, ◌||◌}
 use mathlib.Core.List.{List, [], ◌∷◌, ◌++◌, map, append_assoc}
-use Prim.Native.Nat.{ℕ, suc, ◌+◌, ◌≤◌, ◌<◌}
+use Prim.Native.Nat.{ℕ, zero, suc, ◌+◌, ◌≤◌, ◌<◌}
 use native.Mathlib.Numerals.{add-one}
 use native.Mathlib.Omega.{arith}
 use lib.ListN.{length, length-map, take, drop, set, get_or, length-append, length-set, take-append-drop, drop_of_length-le}
 use lib.Seq.{get_or-take, drop-cons, take-suc, length-take-le, take-set-lt, drop-set-lt, set_split, take_all}
 use lib.Dec.{ltb, eqb}
 use borrow.Author.Tests.{ltb-false, eqb-false, le-ltb, eq-eqb, ne_eqb}
-use Rattle.error.specs.Code.{code_of}
 use Rattle.error.specs.declared.Refusal.{Refusal}
 use Rattle.report.specs.declared.violation.TStdViolation.{TStdViolation}
 use Rattle.report.specs.declared.ViolationLine.{ViolationLine}
 use Rattle.report.specs.declared.TStdReport.{TStdReport}
-use Rattle.report.specs.declared.RecordAnswer.TheVariants.{Done, Refused}
+use Rattle.std.specs.Prelude.{Ok, Err, Option, Some, None, MatchOption}
+use Rattle.std.specs.List.{AllWithin, HoldsAt}
 use Rattle.report.specs.declared.Recorded.{Recorded}
 use Rattle.report.specs.Violation.{key_of, same_key, merge_of}
 use Rattle.report.proofs.Bools.{or_left, or_right}
@@ -42,11 +42,11 @@ module _ {A : Type 0} (l : List A) (n : ℕ) (a : A) where
 
 module _ (r : TStdReport) (v : TStdViolation) where
   abbrev unchanged : Recorded
-  unchanged = record { answer = Refused Refusal.OutsideLimits; report = r }
+  unchanged = record { answer = Err Refusal.OutsideLimits; report = r }
 
   -- the event taken, with these lines
   abbrev taken : List ViolationLine → ℕ → Recorded
-  taken ls n = record { answer = Done; report = record { violations = ls; violation_count = n; violation_events = r.violation_events + 1; pcr_samples = r.pcr_samples; modelled_seconds = r.modelled_seconds } }
+  taken ls n = record { answer = Ok tt; report = record { violations = ls; violation_count = n; violation_events = r.violation_events + 1; pcr_samples = r.pcr_samples; modelled_seconds = r.modelled_seconds } }
 
   pub refused_first : (ltb 64 r.violation_count || eqb r.violation_events most_events) ≡ true → recorded r v ≡ unchanged
   unfolding recorded refuses
@@ -119,6 +119,42 @@ module _ (r : TStdReport) (v : TStdViolation) where
           let b : r.violation_count < length r.violations = omega (arith, s.full, s.lines) in
           simp (le-ltb 64 r.violation_count s.lines, ne_eqb r.violation_events most_events not_spent, no_line, ne_eqb r.violation_count 64 f, new_line, n, e, store_next r.violations r.violation_count m b)
 
+-- what the lines of a search say of the key of v
+abbrev pub OfKey : TStdViolation → ViolationLine → Type 0
+OfKey v l = same_key (key_of l.violation) (key_of v) ≡ true
+
+abbrev pub OfOther : TStdViolation → ViolationLine → Type 0
+OfOther v l = same_key (key_of l.violation) (key_of v) ≡ false
+
+module _ (r : TStdReport) (v : TStdViolation) (d : ViolationLine) (start : Searched r v 0) where
+  -- the lines that the search passed
+  passed : (i : ℕ) → i ≤ r.violation_count → AllWithin (OfOther v) (lines_of r) 0 i → Searched r v i
+  passed zero h at = start
+  passed (suc i) h at =
+      let before = passed i (omega arith) (λ k d low high. at k d low (omega arith)) in
+      let other = rw (get_or-take r.violation_count r.violations i d h) at (at i d (omega arith) (omega arith)) in
+      rw (← add-one) (continues r v i d before h other)
+
+  line_count : length (lines_of r) ≡ r.violation_count
+  line_count = length-take-le r.violation_count r.violations (omega (arith, start.full, start.lines))
+
+  -- what a search that found line i, or none, tells
+  abbrev pub Found : Option ℕ → Type 0
+  Found found = MatchOption found (AllWithin (OfOther v) (lines_of r) 0 (length (lines_of r))) (λ i. (i < length (lines_of r)) × HoldsAt (OfKey v) (lines_of r) i × AllWithin (OfOther v) (lines_of r) 0 i)
+
+  pub record At (i : ℕ) : Type 0 where
+    pub within : i < r.violation_count
+    pub searched : Searched r v i
+    pub key : same_key (key_of (get_or r.violations i d).violation) (key_of v) ≡ true
+
+  pub found_at : (i : ℕ) → Found (Some i) → At i
+  found_at i f =
+      let h : i < r.violation_count = omega (arith, line_count, f.0) in
+      record { within = h; searched = passed i (omega arith) f.2; key = rw (get_or-take r.violation_count r.violations i d h) at (f.1 d) }
+
+  pub found_none : Found None → Searched r v r.violation_count
+  found_none f = passed r.violation_count (omega arith) (rw line_count at f)
+
 -- the length of an array that is a field, from what owning the struct tells
 pub length_of_map : (X Y : Type 0) (f : X → Y) (l : List X) (n : ℕ) → length (map f l) ≡ n → length l ≡ n
 length_of_map X Y f l n p = sym (length-map l f) ∙ p
@@ -126,7 +162,7 @@ length_of_map X Y f l n p = sym (length-map l f) ∙ p
 -- ---- the answer's number
 
 code_by : (r : TStdReport) (v : TStdViolation) (b : Bool) → refuses r v ≡ b → answer_code (recorded r v).answer ≡ record_code r v
-unfolding recorded record_code answer_code code_of
+unfolding recorded record_code answer_code
 code_by r v true e = rw e
 code_by r v false e = rw e
 

@@ -7,7 +7,7 @@ use Rattle.report.specs.declared.violation.Key.{Key}
 use Rattle.report.specs.declared.violation.TStdViolation.{TStdViolation}
 use Rattle.report.specs.declared.ViolationLine.{ViolationLine}
 use Rattle.report.specs.declared.TStdReport.{TStdReport}
-use Rattle.report.specs.declared.RecordAnswer.TheVariants.{Done, Refused}
+use Rattle.std.specs.Prelude.{Ok, Err}
 use Rattle.report.specs.declared.Recorded.{Recorded}
 use Rattle.report.specs.Violation.{key_of, same_key, merge_of}
 use Rattle.report.specs.Keys.{has_key}
@@ -43,8 +43,8 @@ with_lines r ls = record { violations = ls ++ drop (length ls) r.violations; vio
 unfoldable pub recorded : TStdReport → TStdViolation → Recorded
 recorded r v =
     cond (refuses r v)
-    (record { answer = Refused Refusal.OutsideLimits; report = r })
-    (record { answer = Done; report = with_lines r (record_line (lines_of r) v) })
+    (record { answer = Err Refusal.OutsideLimits; report = r })
+    (record { answer = Ok tt; report = with_lines r (record_line (lines_of r) v) })
 
 -- number, place and PID of the answer: 1, 0, 0 for a refusal, else 0, 0, 0
 unfoldable pub record_code : TStdReport → TStdViolation → Code

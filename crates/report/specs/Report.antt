@@ -3,12 +3,12 @@ use Rattle.std.specs.Prelude.{ℕ, Bool, replicate, eqb}
 use Rattle.ieee.specs.Binary64.{0f}
 use Rattle.error.specs.Code.{code_of, code_numbered}
 use Rattle.error.specs.declared.Code.{Code}
+use Rattle.error.specs.declared.Refusal.{Refusal}
 use Rattle.report.specs.declared.violation.TStdViolation.TheVariants.{TbOverflow}
 use Rattle.report.specs.declared.ViolationLine.{ViolationLine}
 use Rattle.report.specs.declared.TStdReport.{TStdReport}
 use Rattle.report.specs.declared.TStdChainStats.{TStdChainStats}
-use Rattle.report.specs.declared.RecordAnswer.{RecordAnswer}
-use Rattle.report.specs.declared.RecordAnswer.TheVariants.{Done, Refused}
+use Rattle.std.specs.Prelude.{Result, Ok, Err}
 
 -- what an unused record holds
 abbrev pub unused_line : ViolationLine
@@ -25,6 +25,6 @@ abbrev pub conformant : TStdReport → Bool
 conformant r = eqb r.violation_count 0
 
 -- number, place and PID of what recording answers: 0, 0, 0 where the event was taken
-unfoldable pub answer_code : RecordAnswer → Code
-answer_code Done = code_numbered 0
-answer_code (Refused r) = code_of r
+unfoldable pub answer_code : Result Unit Refusal → Code
+answer_code (Ok u) = code_numbered 0
+answer_code (Err r) = code_of r

@@ -37,19 +37,14 @@ pub struct TStdChainStats {
 }
 
 #[derive(Clone, Copy)]
-pub enum RecordAnswer {
-    Done,
-    Refused(Refusal),
-}
-
-#[derive(Clone, Copy)]
 pub struct Recorded {
-    pub answer: RecordAnswer,
+    pub answer: Result<(), Refusal>,
     pub report: TStdReport,
 }
 
 impl TStdChainStats {
     // Before any packet. Ruled out: a peak or a delay that is not 0; another PID.
+    #[tactic(auto, unfolding(crate::specs::Report::empty_stats))]
     pub fn new(pid: u16) -> Self
         ensures { result ≡ empty_stats pid }
     {
@@ -66,6 +61,7 @@ impl TStdChainStats {
 
 impl TStdReport {
     // Before any event; unused records hold TbOverflow with PID 0 and peak 0. Ruled out: a line in use; an event counted.
+    #[tactic(auto, unfolding(crate::specs::Report::empty_report))]
     pub fn new() -> Self
         ensures { result ≡ empty_report }
     {
@@ -97,30 +93,30 @@ impl TStdReport {
         ensures { (result ≡ recorded self v) × (answer_code result.answer ≡ record_code self v) }
     {
         let count = self.violation_count;
-        if (64 < count) | (self.violation_events == 18446744073709551615) {
+        if (64 < count) | (self.violation_events == u64::MAX) {
             return Recorded {
-                answer: RecordAnswer::Refused(Refusal::OutsideLimits),
+                answer: Err(Refusal::OutsideLimits),
                 report: self,
             };
         }
-        let mut i = 0;
-        while i < count {
-            let line = self.violations[i];
-            let first = line.violation;
-            if first.key().same(v.key()) {
-                let violation = merge_worse(first, v);
-                self.violations[i] = ViolationLine { violation };
-                self.violation_events += 1;
-                return Recorded {
-                    answer: RecordAnswer::Done,
-                    report: self,
-                };
-            }
-            i += 1;
+        let key = v.key();
+        let found = self
+            .violations
+            .iter()
+            .take(count)
+            .position(|line| line.violation.key() == key);
+        if let Some(i) = found {
+            let violation = merge_worse(self.violations[i].violation, v);
+            self.violations[i] = ViolationLine { violation };
+            self.violation_events += 1;
+            return Recorded {
+                answer: Ok(()),
+                report: self,
+            };
         }
         if count == 64 {
             return Recorded {
-                answer: RecordAnswer::Refused(Refusal::OutsideLimits),
+                answer: Err(Refusal::OutsideLimits),
                 report: self,
             };
         }
@@ -128,17 +124,17 @@ impl TStdReport {
         self.violation_count += 1;
         self.violation_events += 1;
         Recorded {
-            answer: RecordAnswer::Done,
+            answer: Ok(()),
             report: self,
         }
     }
 }
 
 // `record` on a report that the caller lends. Ruled out: the report left as it was; another answer than `record` gives.
-pub fn record_in(report: &mut TStdReport, v: TStdViolation) -> RecordAnswer
+pub fn record_in(report: &mut TStdReport, v: TStdViolation) -> Result<(), Refusal>
     ensures { (report.new ≡ (recorded report.old v).report) × (result ≡ (recorded report.old v).answer) × (answer_code result ≡ record_code report.old v) }
 {
-    let r = TStdReport::record(*report, v);
+    let r = report.record(v);
     *report = r.report;
     r.answer
 }

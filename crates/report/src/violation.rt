@@ -1,7 +1,6 @@
 // The violations of H.222.0 2.4.2.6 that a replay finds, what each one tells, and the worse of two of one kind.
-ghost use Rattle.std.specs.Prelude.{◌≡◌, [], ◌∷◌, max};
-ghost use types.Run.{OneOf};
-ghost use Rattle.report.specs.Violation.{fields_of, in_bytes, in_seconds, key_of, same_key, with_figure, merge_of};
+ghost use Rattle.std.specs.Prelude.{◌≡◌};
+ghost use Rattle.report.specs.Violation.{fields_of, in_bytes, in_seconds, key_of, worse, with_figure, merge_of};
 
 use TStdViolation::*;
 
@@ -59,6 +58,7 @@ pub enum Figure {
 // A violation field by field. A field that its kind lacks is 0.
 #[derive(Clone, Copy)]
 pub struct ViolationFields {
+    // The number that text and C words tell: the enum of kinds is `TStdViolation`, and a second one of the nine would be its twin.
     pub kind: u8,
     pub pid: u16,
     pub limit: usize,
@@ -67,7 +67,7 @@ pub struct ViolationFields {
 }
 
 // A report has one line for each key.
-#[derive(Clone, Copy)]
+#[derive(Clone, Copy, PartialEq, Eq)]
 pub struct Key {
     pub kind: u8,
     pub pid: u16,
@@ -101,6 +101,7 @@ fn in_seconds(kind: u8, pid: u16, time: f64, seconds: f64) -> ViolationFields
 impl TStdViolation {
     // What the line, the C boundary and a log tell of a violation. Ruled out: a limit or a decode time for a kind
     // that has none; the decode time in the place of the delay.
+    #[tactic(auto, unfolding(crate::specs::Violation::fields_of))]
     pub fn fields(self) -> ViolationFields
         ensures { result ≡ fields_of self }
     {
@@ -138,6 +139,7 @@ impl TStdViolation {
     }
 
     // Ruled out: two kinds with one number; a PID other than 0 for BsysOverflow.
+    #[tactic(auto, unfolding(crate::specs::Violation::key_of))]
     pub fn key(self) -> Key
         ensures { result ≡ key_of self }
     {
@@ -149,22 +151,22 @@ impl TStdViolation {
     }
 }
 
-impl Key {
-    // Ruled out: keys that agree in the kind alone, or in the PID alone.
-    pub fn same(self, other: Key) -> bool
-        ensures { result ≡ same_key self other }
+impl Figure {
+    // The larger of the two; one of bytes and one of seconds leave the first.
+    #[tactic(auto, unfolding(crate::specs::Violation::worse))]
+    fn worse(self, other: Figure) -> Figure
+        ensures { result ≡ worse self other }
     {
-        (self.kind == other.kind) & (self.pid == other.pid)
+        match (self, other) {
+            (Figure::Bytes(x), Figure::Bytes(y)) => Figure::Bytes(x.max(y)),
+            (Figure::Seconds(x), Figure::Seconds(y)) => Figure::Seconds(ieee::max_num(x, y)),
+            _ => self,
+        }
     }
 }
 
-fn larger(a: u64, b: u64) -> u64
-    ensures { result ≡ max a b }
-{
-    if a < b { b } else { a }
-}
-
 // The violation with another figure in bytes, where its kind has one.
+#[tactic(auto, unfolding(crate::specs::Violation::with_figure))]
 fn with_bytes(v: TStdViolation, bytes: u64) -> TStdViolation
     ensures { result ≡ with_figure v (Figure.Bytes bytes) }
 {
@@ -207,6 +209,7 @@ fn with_bytes(v: TStdViolation, bytes: u64) -> TStdViolation
 }
 
 // The violation with another figure in seconds, where its kind has one.
+#[tactic(auto, unfolding(crate::specs::Violation::with_figure))]
 fn with_seconds(v: TStdViolation, seconds: f64) -> TStdViolation
     ensures { result ≡ with_figure v (Figure.Seconds seconds) }
 {
@@ -228,65 +231,17 @@ fn with_seconds(v: TStdViolation, seconds: f64) -> TStdViolation
 
 // The first of the two, with the worse of their figures where they are of one kind.
 // Ruled out: the smaller figure; the second's decode time, or limit, beside the first's PID.
+#[tactic(auto, using(crate::proofs::Merge::merge_like, crate::proofs::Merge::merge_unlike))]
 pub fn merge_worse(a: TStdViolation, b: TStdViolation) -> TStdViolation
     ensures { result ≡ merge_of a b }
 {
-    match a {
-        TbOverflow { peak_bytes: x, .. } => match b {
-            TbOverflow { peak_bytes: y, .. } => with_bytes(a, larger(x, y)),
-            _ => a,
-        },
-        MainOverflow { peak_bytes: x, .. } => match b {
-            MainOverflow { peak_bytes: y, .. } => with_bytes(a, larger(x, y)),
-            _ => a,
-        },
-        MbOverflow { peak_bytes: x, .. } => match b {
-            MbOverflow { peak_bytes: y, .. } => with_bytes(a, larger(x, y)),
-            _ => a,
-        },
-        BsysOverflow { peak_bytes: x } => match b {
-            BsysOverflow { peak_bytes: y } => with_bytes(a, larger(x, y)),
-            _ => a,
-        },
-        _ => merge_not_overflow(a, b),
+    let first = a.fields();
+    let second = b.fields();
+    if first.kind != second.kind {
+        return a;
     }
-}
-
-// `merge_worse` for the kinds that are no overflow.
-fn merge_not_overflow(a: TStdViolation, b: TStdViolation) -> TStdViolation
-    requires { OneOf (1 ∷ 3 ∷ 5 ∷ 6 ∷ 7 ∷ []) (fields_of a).kind }
-    ensures { result ≡ merge_of a b }
-{
-    match a {
-        TbBusyOverOneSecond { seconds: x, .. } => match b {
-            TbBusyOverOneSecond { seconds: y, .. } => with_seconds(a, ieee::max_num(x, y)),
-            _ => a,
-        },
-        MainUnderflow { missing_bytes, .. } => match b {
-            MainUnderflow {
-                missing_bytes: y,
-                ..
-            } => with_bytes(a, larger(missing_bytes, y)),
-            _ => a,
-        },
-        MbBusyOverOneSecond { seconds: x, .. } => match b {
-            MbBusyOverOneSecond { seconds: y, .. } => with_seconds(a, ieee::max_num(x, y)),
-            _ => a,
-        },
-        EbUnderflow { missing_bytes, .. } => match b {
-            EbUnderflow {
-                missing_bytes: y,
-                ..
-            } => with_bytes(a, larger(missing_bytes, y)),
-            _ => a,
-        },
-        DelayOverOneSecond { delay_seconds, .. } => match b {
-            DelayOverOneSecond {
-                delay_seconds: y,
-                ..
-            } => with_seconds(a, ieee::max_num(delay_seconds, y)),
-            _ => a,
-        },
-        _ => a,
+    match first.figure.worse(second.figure) {
+        Figure::Bytes(bytes) => with_bytes(a, bytes),
+        Figure::Seconds(seconds) => with_seconds(a, seconds),
     }
 }

@@ -1,40 +1,39 @@
--- `TStdReport::record` meets its contract. The loop leaves the report as it came, and no line before i has the key of the event (`Searched`); each way out is a law of Search.
+-- `TStdReport::record` meets its contract. Each way out is a law of Search.
 use Rattle.report.specs.Report.{unused_line}
-use Rattle.report.specs.Record.{recorded}
 use borrow.Author.Rules.{rules}
+use borrow.Author.Tests.{tests}
 use native.Mathlib.Omega.{arith}
-use mathlib.Core.Path.{refl, sym, ap, ◌∙◌}
-use Rattle.report.specs.declared.TStdReport.{TStdReport}
-use Rattle.report.proofs.Search.{length_of_map, told, refused_first, starts, continues, merged, full_table, added}
+use mathlib.Core.Path.{refl, sym}
+use Rattle.std.proofs.lemmas.Iterator.{YieldsList-from_slice, YieldsList-from_take, IsFirst-from_position}
+use Rattle.report.proofs.Search.{OfKey, OfOther, Found, Searched, told, refused_first, starts, length_of_map, found_at, found_none, merged, full_table, added}
 use Rattle.report.proofs.TStdReport.record.Goals as goal
+use Rattle.report.proofs.TStdReport.record.Goals.{After-position-found}
 
 pub returns-then-count-self : goal.returns-then-count-self
 returns-then-count-self c = told c.args.self c.args.v (sym (refused_first c.args.self c.args.v c.if-count-self.true))
 
-pub loop-i-init : goal.loop-i-init
-loop-i-init c =
-    (refl, (refl, starts c.args.self c.args.v (search (length_of_map, rules)) (search rules) c.if-count-self.false))
+start : (c : After-position-found) → Searched c.args.self c.args.v 0
+start c = starts c.args.self c.args.v (search (length_of_map, rules)) (search rules) c.if-count-self.false
 
-pub returns-then-same : goal.returns-then-same
-returns-then-same c =
-    let a = c.args in
-    let l = c.loop-i in
-    rw c.merge_worse-violation.ensures (told a.self a.v (sym (merged l.self a.v l.i unused_line l.invariant.1.1 (omega arith) (cc)) ∙ ap (λ (r : TStdReport). recorded r a.v) l.invariant.0))
+-- what the search found
+found : (c : After-position-found) → Found c.args.self c.args.v unused_line (start c) c.position-found.result
+found c =
+    IsFirst-from_position _ _ c.position-found.result (OfKey c.args.v) (OfOther c.args.v) c.position-found.ensures.ran (YieldsList-from_take _ (YieldsList-from_slice c.args.self.violations (cc)) c.take.ensures.count) (λ x q k. search (rules, tests)) (λ x q k. search (rules, tests))
 
-pub loop-i-preserved : goal.loop-i-preserved
-loop-i-preserved c =
+pub returns-in-Some : goal.returns-in-Some
+returns-in-Some c =
     let a = c.args in
-    let l = c.loop-i in
-    (l.invariant.0, (l.invariant.1.0, continues l.self a.v l.i unused_line l.invariant.1.1 (omega arith) (cc)))
+    let at = found_at a.self a.v unused_line (start c.before.before.before) c.in-Some.i (rw c.in-Some.is at (found c.before.before.before)) in
+    rw c.merge_worse-violation.ensures (told a.self a.v (sym (merged a.self a.v c.in-Some.i unused_line at.searched at.within at.key)))
 
 pub returns-then-count-eq64 : goal.returns-then-count-eq64
 returns-then-count-eq64 c =
     let a = c.args in
-    let l = c.loop-i in
-    told a.self a.v (sym (full_table l.self a.v l.i unused_line l.invariant.1.1 (omega arith) (omega arith)) ∙ ap (λ (r : TStdReport). recorded r a.v) l.invariant.0)
+    let none = found_none a.self a.v unused_line (start c.before.before) (rw c.in_default.is at (found c.before.before)) in
+    told a.self a.v (sym (full_table a.self a.v a.self.violation_count unused_line none (omega arith) c.if-count-eq64.true))
 
 pub returns : goal.returns
 returns c =
     let a = c.args in
-    let l = c.loop-i in
-    told a.self a.v (sym (added l.self a.v l.i unused_line l.invariant.1.1 (omega arith) (omega arith) _ l.invariant.1.0) ∙ ap (λ (r : TStdReport). recorded r a.v) l.invariant.0)
+    let none = found_none a.self a.v unused_line (start c.before.before) (rw c.in_default.is at (found c.before.before)) in
+    told a.self a.v (sym (added a.self a.v a.self.violation_count unused_line none (omega arith) c.if-count-eq64.false _ refl))
