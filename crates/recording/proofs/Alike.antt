@@ -11,10 +11,10 @@ use lib.ListN.{length, get_or, get_or-eq_default}
 use lib.Seq.{get_or-drop}
 use lib.Dec.{ltb, leb, eqb}
 use borrow.Author.Tests.{le-leb, eqb-true, eqb-false}
+use Rattle.std.specs.Prelude.{Some, Result, Ok, Err}
 use Rattle.packet.specs.declared.TsPacket.{TsPacket}
-use Rattle.packet.specs.declared.Parse.{Parse}
+use Rattle.packet.specs.declared.TsError.{TsError}
 use Rattle.packet.specs.declared.TsPacketLayout.{TsPacketLayout}
-use Rattle.packet.specs.declared.Detected.{Detected}
 use Rattle.packet.specs.Packet.{parse_of, payload_from}
 use Rattle.packet.proofs.Same.{parse_same}
 use Rattle.packet.proofs.Grid.{in_packet_lem}
@@ -78,8 +78,8 @@ module _ (y : TsPacketLayout) (s : Streams) (room : y.sync_offset + 188 ≤ y.pa
                 get_or-eq_default (packet_at y a k) 0 (omega (arith, wide)) ∙ sym (get_or-eq_default (packet_at y b k) 0 (omega (arith, wide')))
 
     -- packet k of both is parsed as p
-    module _ (p : TsPacket) (is : parse_of (packet_at y a k) ≡ Parse.Packet p) where
-      is' : parse_of (packet_at y b k) ≡ Parse.Packet p
+    module _ (p : TsPacket) (is : parse_of (packet_at y a k) ≡ Ok p) where
+      is' : parse_of (packet_at y b k) ≡ Ok p
       is' = sym same_parse ∙ is
 
       abbrev start : ℕ
@@ -121,12 +121,10 @@ module _ (y : TsPacketLayout) (s : Streams) (room : y.sync_offset + 188 ≤ y.pa
           → Match (opens_at y a (suc k) x) (opens_at y b (suc k) x) []
       kept ea eb = rw (ea, eb) (m x on)
 
-      go : (p : Parse) → parse_of (packet_at y a k) ≡ p → Match (opens_at y a (suc k) x) (opens_at y b (suc k) x) []
-      go (Parse.Truncated have need) is =
-          kept (opens_by y a k (Parse.Truncated have need) x is) (opens_by y b k (Parse.Truncated have need) x (sym (same_parse k h) ∙ is))
-      go (Parse.BadSyncByte c) is =
-          kept (opens_by y a k (Parse.BadSyncByte c) x is) (opens_by y b k (Parse.BadSyncByte c) x (sym (same_parse k h) ∙ is))
-      go (Parse.Packet p) is = by_pid (eqb p.pid x) refl
+      go : (p : Result TsPacket TsError) → parse_of (packet_at y a k) ≡ p → Match (opens_at y a (suc k) x) (opens_at y b (suc k) x) []
+      go (Err err) is =
+          kept (opens_by y a k (Err err) x is) (opens_by y b k (Err err) x (sym (same_parse k h) ∙ is))
+      go (Ok p) is = by_pid (eqb p.pid x) refl
         where
           by_pid : (t : Bool) → eqb p.pid x ≡ t → Match (opens_at y a (suc k) x) (opens_at y b (suc k) x) []
           by_pid true e =
@@ -145,12 +143,10 @@ module _ (y : TsPacketLayout) (s : Streams) (room : y.sync_offset + 188 ≤ y.pa
   unfolding Same fact_by
   same_fact k h = go (parse_of (packet_at y a k)) refl
     where
-      go : (p : Parse) → parse_of (packet_at y a k) ≡ p → fact_at y s a k ≡ fact_at y s b k
-      go (Parse.Truncated have need) is =
-          fact_by_lem y a k s (Parse.Truncated have need) is ∙ sym (fact_by_lem y b k s (Parse.Truncated have need) (sym (same_parse k h) ∙ is))
-      go (Parse.BadSyncByte c) is =
-          fact_by_lem y a k s (Parse.BadSyncByte c) is ∙ sym (fact_by_lem y b k s (Parse.BadSyncByte c) (sym (same_parse k h) ∙ is))
-      go (Parse.Packet p) is = by_stream (is_stream s p.pid) refl
+      go : (p : Result TsPacket TsError) → parse_of (packet_at y a k) ≡ p → fact_at y s a k ≡ fact_at y s b k
+      go (Err err) is =
+          fact_by_lem y a k s (Err err) is ∙ sym (fact_by_lem y b k s (Err err) (sym (same_parse k h) ∙ is))
+      go (Ok p) is = by_stream (is_stream s p.pid) refl
         where
           by_stream : (t : Bool) → is_stream s p.pid ≡ t → fact_at y s a k ≡ fact_at y s b k
           by_stream true on =
@@ -172,7 +168,7 @@ module _ (y : TsPacketLayout) (s : Streams) (room : y.sync_offset + 188 ≤ y.pa
       λ i.
       record {
         size = only.one_length i;
-        layout = Detected.Found y;
+        layout = Some y;
         facts = (same_facts 0 count (omega arith) ∙ ap (facts_from y s b 0) counts) i;
       }
 

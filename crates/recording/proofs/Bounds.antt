@@ -8,14 +8,15 @@ use mathlib.Core.Bool.{Bool, true, false, cond}
 use native.Mathlib.Omega.{arith}
 use native.Mathlib.Nat.{mul-le-mul_left, div-mul-le_self}
 use lib.ListN.{length}
-use Rattle.packet.specs.declared.Parse.{Parse}
+use Rattle.std.proofs.lemmas.Option.{none-some}
+use Rattle.std.specs.Prelude.{Option, Some, None, Result, Ok, Err}
+use Rattle.packet.specs.declared.TsPacket.{TsPacket}
+use Rattle.packet.specs.declared.TsError.{TsError}
 use Rattle.packet.specs.declared.TsPacketLayout.{TsPacketLayout}
-use Rattle.packet.specs.declared.Detected.{Detected}
 use Rattle.packet.specs.Packet.{parse_of}
 use Rattle.packet.specs.Layout.{layout_of}
 use Rattle.packet.proofs.Parsed as packet-parsed
 use Rattle.packet.proofs.Layouts.{payload_length}
-use Rattle.scanner.specs.declared.DecodeTs.{DecodeTs}
 use Rattle.scanner.specs.declared.Runs.{Runs}
 use Rattle.scanner.specs.Unit.{Open, none, unit, runs_in, no_runs}
 use Rattle.scanner.proofs.Cover.{covers, stamped, stamped_nonempty, stamp_bound}
@@ -28,11 +29,11 @@ use Rattle.recording.proofs.OnlyContent.{found_room}
 pub record RunsHold (r : Runs) (len : ℕ) : Type 0 where
   pub cover : (r ≡ no_runs) ⊎ (r.head + r.rest + r.body ≡ len)
   pub fit : r.head + r.rest + r.body ≤ len
-  pub stamp : (v : ℕ) → r.decode_ts ≡ DecodeTs.At v → (0 < r.head) × (v < 2 ^ 33)
+  pub stamp : (v : ℕ) → r.decode_ts ≡ Some v → (0 < r.head) × (v < 2 ^ 33)
 
 no_runs_hold : (len : ℕ) → RunsHold no_runs len
 no_runs_hold len =
-    record { cover = inl refl; fit = omega arith; stamp = λ v e. absurd (let z : ◌≡◌ {A = ℕ} 0 1 = cc in omega arith) }
+    record { cover = inl refl; fit = omega arith; stamp = λ v e. absurd (none-some v e) }
 
 runs_hold : (o : Open) (len : ℕ) → LastOf o len → RunsHold (runs_in o len) len
 unfolding LastOf
@@ -57,10 +58,9 @@ module _ (y : TsPacketLayout) (s : Streams) (l : List ℕ) (room : y.sync_offset
   unfolding FactHolds fact_by
   fact_holds k h = go (parse_of (packet_at y l k)) refl
     where
-      go : (p : Parse) → parse_of (packet_at y l k) ≡ p → FactHolds (fact_by s (opens_at y l (suc k)) (packet_at y l k) p)
-      go (Parse.Truncated have need) is = tt
-      go (Parse.BadSyncByte b) is = tt
-      go (Parse.Packet p) is = (packet-parsed.parsed (packet_at y l k) p is, by_stream (is_stream s p.pid))
+      go : (p : Result TsPacket TsError) → parse_of (packet_at y l k) ≡ p → FactHolds (fact_by s (opens_at y l (suc k)) (packet_at y l k) p)
+      go (Err err) is = tt
+      go (Ok p) is = (packet-parsed.parsed (packet_at y l k) p is, by_stream (is_stream s p.pid))
         where
           len : length (payload_in (packet_at y l k) p) ≡ 188 - p.payload_start
           len = payload_length (packet_at y l k) p.payload_start (omega (arith, packet_long y s l k room h))
@@ -96,6 +96,6 @@ pub read_holds : (s : Streams) (l : List ℕ) → ReadHolds (read_of s l)
 unfolding read_by FactsHold
 read_holds s l = go (layout_of l) refl
   where
-    go : (d : Detected) → layout_of l ≡ d → ReadHolds (read_by d s l)
-    go (Detected.Found y) is = read_holds_at y s l (found_room l y is)
-    go Detected.Nothing is = record { facts = tt; fit = omega arith }
+    go : (d : Option TsPacketLayout) → layout_of l ≡ d → ReadHolds (read_by d s l)
+    go (Some y) is = read_holds_at y s l (found_room l y is)
+    go None is = record { facts = tt; fit = omega arith }

@@ -11,8 +11,9 @@ use native.Mathlib.Numerals.{add-one}
 use lib.ListN.{length, length-append}
 use lib.Dec.{ltb, leb}
 use borrow.Author.Tests.{lt-ltb, le-leb, lt-leb, ltb-true, leb-true}
+use Rattle.std.specs.Prelude.{Result, Ok, Err}
 use Rattle.packet.specs.declared.TsPacket.{TsPacket}
-use Rattle.packet.specs.declared.Parse.{Parse}
+use Rattle.packet.specs.declared.TsError.{TsError}
 use Rattle.packet.specs.declared.TsPacketLayout.{TsPacketLayout}
 use Rattle.packet.specs.Packet.{parse_of, payload_from}
 use Rattle.packet.proofs.Parsed as packet-parsed
@@ -96,12 +97,11 @@ and_first : (a b : Bool) → a ≡ false → a && b ≡ false
 and_first a b e = rw e
 
 -- before the payload nothing is content
-pub before_payload : (s : Streams) (opens : ℕ → Open) (rests : ℕ → List ℕ) (w : List ℕ) (p : Parse) (j : ℕ) → j < payload_from p
+pub before_payload : (s : Streams) (opens : ℕ → Open) (rests : ℕ → List ℕ) (w : List ℕ) (p : Result TsPacket TsError) (j : ℕ) → j < payload_from p
     → content_in s opens rests w p j ≡ false
 unfolding payload_from content_in
-before_payload s opens rests w (Parse.Packet h) j l = and_first _ _ (lt-leb h.payload_start j l)
-before_payload s opens rests w (Parse.Truncated have need) j l = refl
-before_payload s opens rests w (Parse.BadSyncByte b) j l = refl
+before_payload s opens rests w (Ok h) j l = and_first _ _ (lt-leb h.payload_start j l)
+before_payload s opens rests w (Err err) j l = refl
 
 -- Where content begins in a packet's 188 bytes, by its fact.
 unfoldable pub content_from : Fact → ℕ
@@ -120,7 +120,7 @@ last_next none false p = tt
 last_next (unit u) false p = omega (arith, length-append u p)
 
 -- so is the payload of packet k of the unit behind it
-pub payload_last : (y : TsPacketLayout) (l : List ℕ) (k : ℕ) (p : TsPacket) → parse_of (packet_at y l k) ≡ Parse.Packet p
+pub payload_last : (y : TsPacketLayout) (l : List ℕ) (k : ℕ) (p : TsPacket) → parse_of (packet_at y l k) ≡ Ok p
     → LastOf (opens_at y l (suc k) p.pid) (length (payload_in (packet_at y l k) p))
 payload_last y l k p is =
     let w = payload_in (packet_at y l k) p in
@@ -162,10 +162,9 @@ payload_from_four : (w : List ℕ) → 4 ≤ payload_from (parse_of w)
 unfolding payload_from
 payload_from_four w = go (parse_of w) refl
   where
-    go : (p : Parse) → parse_of w ≡ p → 4 ≤ payload_from p
-    go (Parse.Packet h) is = (packet-parsed.parsed w h is).start_low
-    go (Parse.Truncated have need) is = omega arith
-    go (Parse.BadSyncByte b) is = omega arith
+    go : (p : Result TsPacket TsError) → parse_of w ≡ p → 4 ≤ payload_from p
+    go (Ok h) is = (packet-parsed.parsed w h is).start_low
+    go (Err err) is = omega arith
 
 -- The content of a whole packet is what lies behind its headers, by its fact alone.
 module _ (y : TsPacketLayout) (s : Streams) (l : List ℕ) (k : ℕ) (room : y.sync_offset + 188 ≤ y.packet_size) (h : k < packets y l) where
@@ -176,17 +175,16 @@ module _ (y : TsPacketLayout) (s : Streams) (l : List ℕ) (k : ℕ) (room : y.s
   unfolding content_in fact_by content_from
   content_by_fact n j b = go (parse_of (packet_at y l k)) refl
     where
-      go : (p : Parse) → parse_of (packet_at y l k) ≡ p
+      go : (p : Result TsPacket TsError) → parse_of (packet_at y l k) ≡ p
           → content_in s (opens_at y l (suc k)) (unit_rest y l (suc k) n) (packet_at y l k) p j
           ≡ leb (content_from (fact_by s (opens_at y l (suc k)) (packet_at y l k) p)) j
-      go (Parse.Packet p) is =
+      go (Ok p) is =
           payload_content (unit_rest y l (suc k) n p.pid) p.payload_start (length (payload_in (packet_at y l k) p)) j b
           (payload_length (packet_at y l k) p.payload_start (omega (arith, packet_long)))
           (opens_at y l (suc k) p.pid)
           (payload_last y l k p is)
           (is_stream s p.pid)
-      go (Parse.Truncated have need) is = sym (lt-leb 188 j b)
-      go (Parse.BadSyncByte c) is = sym (lt-leb 188 j b)
+      go (Err err) is = sym (lt-leb 188 j b)
 
 -- Document 01 on the bytes of a whole packet.
 module _ (y : TsPacketLayout) (s : Streams) (l : List ℕ) (k : ℕ) (room : y.sync_offset + 188 ≤ y.packet_size) (h : k < packets y l) where
@@ -203,7 +201,7 @@ module _ (y : TsPacketLayout) (s : Streams) (l : List ℕ) (k : ℕ) (room : y.s
   pub sync_not_content : content y s l (k * y.packet_size + y.sync_offset) ≡ false
   sync_not_content = rw add-zero at (header_not_content 0 (omega arith))
 
-  module _ (p : TsPacket) (is : parse_of (packet_at y l k) ≡ Parse.Packet p) (j : ℕ) (a : p.payload_start ≤ j) (b : j < 188) where
+  module _ (p : TsPacket) (is : parse_of (packet_at y l k) ≡ Ok p) (j : ℕ) (a : p.payload_start ≤ j) (b : j < 188) where
     abbrev mark : Bool
     mark = content y s l (k * y.packet_size + y.sync_offset + j)
 
@@ -217,7 +215,7 @@ module _ (y : TsPacketLayout) (s : Streams) (l : List ℕ) (k : ℕ) (room : y.s
     unfolding content_in
     in_payload =
         inside y s l k j room h b
-        ∙ ap (λ (q : Parse). content_in s (opens_at y l (suc k)) (unit_rest y l (suc k) (packets y l - suc k)) (packet_at y l k) q j) is
+        ∙ ap (λ (q : Result TsPacket TsError). content_in s (opens_at y l (suc k)) (unit_rest y l (suc k) (packets y l - suc k)) (packet_at y l k) q j) is
         ∙ rw (le-leb p.payload_start j a)
 
     -- payload of a PID that no stream has

@@ -9,13 +9,13 @@ use native.Mathlib.Nat.{add-zero, zero-add, suc-add}
 use lib.ListN.{length, get_or}
 use lib.Dec.{ltb, leb, eqb}
 use borrow.Author.Tests.{eq-eqb, ne_eqb, lt-leb, ltb-true}
+use Rattle.std.proofs.lemmas.List.{nil_from_length}
+use Rattle.std.specs.Prelude.{Option, Some, None, Result, Ok}
 use Rattle.packet.specs.declared.TsPacket.{TsPacket}
-use Rattle.packet.specs.declared.Parse.{Parse}
+use Rattle.packet.specs.declared.TsError.{TsError}
 use Rattle.packet.specs.declared.TsPacketLayout.{TsPacketLayout}
-use Rattle.packet.specs.declared.Detected.{Detected}
 use Rattle.packet.specs.Packet.{parse_of}
 use Rattle.packet.specs.Layout.{layout_of}
-use Rattle.scanner.specs.declared.DecodeTs.{DecodeTs}
 use Rattle.scanner.specs.declared.PesScanner.{PesScanner}
 use Rattle.scanner.specs.declared.Fed.{Fed}
 use Rattle.scanner.specs.Unit.{Open, none, unit, next_open, runs_in, runs_of, stamp_end, content_begin, stamp_of, cut, no_runs}
@@ -26,16 +26,16 @@ use Rattle.recording.specs.Read.{Streams, is_stream, Fact, unparsed, parsed, pac
 
 -- What is read, by its parts.
 module _ (s : Streams) (l : List ℕ) where
-  pub read_found : (y : TsPacketLayout) → layout_of l ≡ Detected.Found y → read_of s l ≡ read_at y s l
+  pub read_found : (y : TsPacketLayout) → layout_of l ≡ Some y → read_of s l ≡ read_at y s l
   unfolding read_by
   read_found y is = rw is
 
-  pub read_nothing : layout_of l ≡ Detected.Nothing → read_of s l ≡ record { size = length l; layout = Detected.Nothing; facts = [] }
+  pub read_nothing : layout_of l ≡ None → read_of s l ≡ record { size = length l; layout = None; facts = [] }
   unfolding read_by
   read_nothing is = rw is
 
 module _ (y : TsPacketLayout) (s : Streams) (l : List ℕ) where
-  pub read_parts : read_at y s l ≡ record { size = length l; layout = Detected.Found y; facts = facts_from y s l 0 (packets y l) }
+  pub read_parts : read_at y s l ≡ record { size = length l; layout = Some y; facts = facts_from y s l 0 (packets y l) }
   unfolding read_at
   read_parts = refl
 
@@ -86,21 +86,21 @@ module _ (y z : TsPacketLayout) (a b : List ℕ) where
 
 -- A packet by its parse: the open units and the fact behind it.
 module _ (y : TsPacketLayout) (l : List ℕ) (k : ℕ) where
-  pub opens_by : (p : Parse) (x : ℕ) → parse_of (packet_at y l k) ≡ p → opens_at y l (suc k) x ≡ open_behind x (opens_at y l k x) (packet_at y l k) p
+  pub opens_by : (p : Result TsPacket TsError) (x : ℕ) → parse_of (packet_at y l k) ≡ p → opens_at y l (suc k) x ≡ open_behind x (opens_at y l k x) (packet_at y l k) p
   opens_by p x is = ap (open_behind x (opens_at y l k x) (packet_at y l k)) is
 
-  pub fact_by_lem : (s : Streams) (p : Parse) → parse_of (packet_at y l k) ≡ p → fact_at y s l k ≡ fact_by s (opens_at y l (suc k)) (packet_at y l k) p
+  pub fact_by_lem : (s : Streams) (p : Result TsPacket TsError) → parse_of (packet_at y l k) ≡ p → fact_at y s l k ≡ fact_by s (opens_at y l (suc k)) (packet_at y l k) p
   fact_by_lem s p is = ap (fact_by s (opens_at y l (suc k)) (packet_at y l k)) is
 
 -- A payload of no bytes has no runs.
-no_stamp : (n s : ℕ) (x : DecodeTs) → cond (ltb n s && leb s (n + 0)) x DecodeTs.Absent ≡ DecodeTs.Absent
+no_stamp : (n s : ℕ) (x : Option ℕ) → cond (ltb n s && leb s (n + 0)) x None ≡ None
 no_stamp n s x = go (ltb n s) refl
   where
-    go : (t : Bool) → ltb n s ≡ t → cond (t && leb s (n + 0)) x DecodeTs.Absent ≡ DecodeTs.Absent
+    go : (t : Bool) → ltb n s ≡ t → cond (t && leb s (n + 0)) x None ≡ None
     go true e = rw (lt-leb s (n + 0) (omega (arith, ltb-true n s e)))
     go false e = refl
 
-cut_empty : (n s t : ℕ) (x : DecodeTs) → cut n 0 s t x ≡ no_runs
+cut_empty : (n s t : ℕ) (x : Option ℕ) → cut n 0 s t x ≡ no_runs
 unfolding cut
 cut_empty n s t x =
     λ i.
@@ -116,45 +116,41 @@ unfolding runs_of
 runs_empty none = refl
 runs_empty (unit u) = cut_empty (length u - 0) (stamp_end u) (content_begin u) (stamp_of u)
 
-no_elements : (p : List ℕ) → length p ≡ 0 → p ≡ []
-no_elements [] e = refl
-no_elements (b ∷ p) e = absurd (omega arith)
-
 one_choice : {A : Type 0} (t : Bool) {a b : A} → a ≡ b → cond t a b ≡ b
 one_choice true e = e
 one_choice false e = refl
 
 -- Packet k is parsed as h.
-module _ (y : TsPacketLayout) (l : List ℕ) (k : ℕ) (h : TsPacket) (is : parse_of (packet_at y l k) ≡ Parse.Packet h) where
+module _ (y : TsPacketLayout) (l : List ℕ) (k : ℕ) (h : TsPacket) (is : parse_of (packet_at y l k) ≡ Ok h) where
   abbrev payload : List ℕ
   payload = payload_in (packet_at y l k) h
 
   pub opens_own : opens_at y l (suc k) h.pid ≡ next_open (opens_at y l k h.pid) h.payload_unit_start payload
-  opens_own = opens_by y l k (Parse.Packet h) h.pid is ∙ rw (eq-eqb h.pid h.pid refl)
+  opens_own = opens_by y l k (Ok h) h.pid is ∙ rw (eq-eqb h.pid h.pid refl)
 
   pub opens_other : (x : ℕ) → (h.pid ≡ x → ⊥) → opens_at y l (suc k) x ≡ opens_at y l k x
-  opens_other x d = opens_by y l k (Parse.Packet h) x is ∙ rw (ne_eqb h.pid x d)
+  opens_other x d = opens_by y l k (Ok h) x is ∙ rw (ne_eqb h.pid x d)
 
   module _ (s : Streams) where
     pub fact_stream : is_stream s h.pid ≡ true → fact_at y s l k ≡ parsed h (runs_in (opens_at y l (suc k) h.pid) (length payload))
     unfolding fact_by
-    fact_stream on = fact_by_lem y l k s (Parse.Packet h) is ∙ rw on
+    fact_stream on = fact_by_lem y l k s (Ok h) is ∙ rw on
 
     pub fact_other : is_stream s h.pid ≡ false → fact_at y s l k ≡ parsed h no_runs
     unfolding fact_by
-    fact_other off = fact_by_lem y l k s (Parse.Packet h) is ∙ rw off
+    fact_other off = fact_by_lem y l k s (Ok h) is ∙ rw off
 
     -- without a payload
     pub fact_empty : length payload ≡ 0 → fact_at y s l k ≡ parsed h no_runs
     unfolding fact_by
     fact_empty e =
-        fact_by_lem y l k s (Parse.Packet h) is
+        fact_by_lem y l k s (Ok h) is
         ∙ ap (parsed h) (one_choice (is_stream s h.pid) (rw e (runs_empty (opens_at y l (suc k) h.pid))))
 
   pub opens_empty : length payload ≡ 0 → (x : ℕ) → opens_at y l (suc k) x ≡ opens_at y l k x
   opens_empty e x =
-      opens_by y l k (Parse.Packet h) x is
-      ∙ one_choice (eqb h.pid x) (rw (no_elements payload e) (empty_keeps (opens_at y l k x) h.payload_unit_start))
+      opens_by y l k (Ok h) x is
+      ∙ one_choice (eqb h.pid x) (rw (nil_from_length payload e) (empty_keeps (opens_at y l k x) h.payload_unit_start))
 
   -- the scanner of its PID, fed its payload, gives the fact's runs and is the scanner of the open unit behind it
   module _ (c : PesScanner) (f : Fed) (before : c ≡ scanner_of (opens_at y l k h.pid)) (fed : f ≡ fed_of (open_of c) h.payload_unit_start payload) where

@@ -5,46 +5,46 @@ use mathlib.Core.Path.{◌≡◌, refl, sym, ◌∙◌, ap}
 use mathlib.Core.List.{List, []}
 use native.Mathlib.Omega.{arith}
 use lib.ListN.{length}
+use Rattle.std.specs.Prelude.{Option, Some, None}
 use Rattle.packet.specs.declared.TsPacketLayout.{TsPacketLayout}
-use Rattle.packet.specs.declared.Detected.{Detected}
 use Rattle.packet.specs.Layout.{layout_of}
 use Rattle.packet.proofs.Layouts.{found, known_room}
 use Rattle.recording.specs.Read.{Streams, read_by, read_of}
 use Rattle.recording.specs.Content.{content_by, content_of_found, OnlyContentAt, OnlyContent}
 use Rattle.recording.proofs.Alike.{reads_alike_at, content_alike_at}
 
-pub found_room : (l : List ℕ) (y : TsPacketLayout) → layout_of l ≡ Detected.Found y → y.sync_offset + 188 ≤ y.packet_size
+pub found_room : (l : List ℕ) (y : TsPacketLayout) → layout_of l ≡ Some y → y.sync_offset + 188 ≤ y.packet_size
 found_room l y is = known_room (found l y is).known
 
 -- without a layout only the length is read
-unread : (s : Streams) (a b : List ℕ) → length a ≡ length b → read_by Detected.Nothing s a ≡ read_by Detected.Nothing s b
+unread : (s : Streams) (a b : List ℕ) → length a ≡ length b → read_by None s a ≡ read_by None s b
 unfolding read_by
-unread s a b e = λ i. record { size = e i; layout = Detected.Nothing; facts = [] }
+unread s a b e = λ i. record { size = e i; layout = None; facts = [] }
 
-pub no_layout_alike : (s : Streams) (a b : List ℕ) → layout_of a ≡ Detected.Nothing → layout_of b ≡ Detected.Nothing → length a ≡ length b
+pub no_layout_alike : (s : Streams) (a b : List ℕ) → layout_of a ≡ None → layout_of b ≡ None → length a ≡ length b
     → read_of s a ≡ read_of s b
-no_layout_alike s a b ea eb e = ap (λ (d : Detected). read_by d s a) ea ∙ unread s a b e ∙ ap (λ (d : Detected). read_by d s b) (sym eb)
+no_layout_alike s a b ea eb e = ap (λ (d : Option TsPacketLayout). read_by d s a) ea ∙ unread s a b e ∙ ap (λ (d : Option TsPacketLayout). read_by d s b) (sym eb)
 
 module _ (s : Streams) (a b : List ℕ) (only : OnlyContent s a b) where
-  only_at : (y : TsPacketLayout) → layout_of a ≡ Detected.Found y → OnlyContentAt y s a b
+  only_at : (y : TsPacketLayout) → layout_of a ≡ Some y → OnlyContentAt y s a b
   unfolding content_by
   only_at y e = record { one_length = only.agree.one_length; alike = λ i h c. only.agree.alike i h (rw e c) }
 
   pub reads_alike : read_of s a ≡ read_of s b
   unfolding read_by
-  reads_alike = go (layout_of a) refl ∙ ap (λ (d : Detected). read_by d s b) only.one_layout
+  reads_alike = go (layout_of a) refl ∙ ap (λ (d : Option TsPacketLayout). read_by d s b) only.one_layout
     where
-      go : (d : Detected) → layout_of a ≡ d → read_by (layout_of a) s a ≡ read_by (layout_of a) s b
-      go (Detected.Found y) e = rw e (reads_alike_at y s (found_room a y e) a b (only_at y e))
-      go Detected.Nothing e = rw e (unread s a b only.agree.one_length)
+      go : (d : Option TsPacketLayout) → layout_of a ≡ d → read_by (layout_of a) s a ≡ read_by (layout_of a) s b
+      go (Some y) e = rw e (reads_alike_at y s (found_room a y e) a b (only_at y e))
+      go None e = rw e (unread s a b only.agree.one_length)
 
   pub content_alike : (i : ℕ) → content_of_found s a i ≡ content_of_found s b i
   unfolding content_by
-  content_alike i = go (layout_of a) refl ∙ ap (λ (d : Detected). content_by d s b i) only.one_layout
+  content_alike i = go (layout_of a) refl ∙ ap (λ (d : Option TsPacketLayout). content_by d s b i) only.one_layout
     where
-      go : (d : Detected) → layout_of a ≡ d → content_by (layout_of a) s a i ≡ content_by (layout_of a) s b i
-      go (Detected.Found y) e = rw e (content_alike_at y s (found_room a y e) a b (only_at y e) i)
-      go Detected.Nothing e = rw e
+      go : (d : Option TsPacketLayout) → layout_of a ≡ d → content_by (layout_of a) s a i ≡ content_by (layout_of a) s b i
+      go (Some y) e = rw e (content_alike_at y s (found_room a y e) a b (only_at y e) i)
+      go None e = rw e
 
   pub only_content_symmetric : OnlyContent s b a
   only_content_symmetric =

@@ -7,7 +7,9 @@ use mathlib.Core.Bool.{Bool, true, false, cond, ◌&&◌, true≢false}
 use native.Mathlib.Omega.{arith}
 use native.Mathlib.Nat.{add-zero}
 use lib.Dec.{eqb}
-use Rattle.packet.specs.declared.Parse.{Parse}
+use Rattle.std.specs.Prelude.{Result, Ok, Err}
+use Rattle.packet.specs.declared.TsPacket.{TsPacket}
+use Rattle.packet.specs.declared.TsError.{TsError}
 use Rattle.packet.specs.declared.TsPacketLayout.{TsPacketLayout}
 use Rattle.packet.specs.Packet.{parse_of}
 use Rattle.scanner.specs.Unit.{Open, unit, starts, next, onward}
@@ -15,44 +17,39 @@ use Rattle.recording.specs.Read.{packet_at, payload_in, open_behind, opens_at}
 use Rattle.recording.specs.Content.{unit_rest_by, unit_rest}
 
 -- a packet starts a unit of PID x, and what one that doesn't adds to the open unit
-unfoldable pub starts_unit : ℕ → List ℕ → Parse → Bool
-starts_unit x w (Parse.Packet h) = eqb h.pid x && starts h.payload_unit_start (payload_in w h)
-starts_unit x w (Parse.Truncated have need) = false
-starts_unit x w (Parse.BadSyncByte b) = false
+unfoldable pub starts_unit : ℕ → List ℕ → Result TsPacket TsError → Bool
+starts_unit x w (Ok h) = eqb h.pid x && starts h.payload_unit_start (payload_in w h)
+starts_unit x w (Err err) = false
 
-added_by : ℕ → List ℕ → Parse → List ℕ
-added_by x w (Parse.Packet h) = cond (eqb h.pid x) (payload_in w h) []
-added_by x w (Parse.Truncated have need) = []
-added_by x w (Parse.BadSyncByte b) = []
+added_by : ℕ → List ℕ → Result TsPacket TsError → List ℕ
+added_by x w (Ok h) = cond (eqb h.pid x) (payload_in w h) []
+added_by x w (Err err) = []
 
 module _ (x : ℕ) (w : List ℕ) where
-  pub rest_ends : (p : Parse) (r : List ℕ) → starts_unit x w p ≡ true → unit_rest_by x w p r ≡ []
+  pub rest_ends : (p : Result TsPacket TsError) (r : List ℕ) → starts_unit x w p ≡ true → unit_rest_by x w p r ≡ []
   unfolding starts_unit
-  rest_ends (Parse.Truncated have need) r e = absurd (true≢false (sym e))
-  rest_ends (Parse.BadSyncByte b) r e = absurd (true≢false (sym e))
-  rest_ends (Parse.Packet h) r e = go (eqb h.pid x) (starts h.payload_unit_start (payload_in w h)) e
+  rest_ends (Err err) r e = absurd (true≢false (sym e))
+  rest_ends (Ok h) r e = go (eqb h.pid x) (starts h.payload_unit_start (payload_in w h)) e
     where
       go : (a t : Bool) → a && t ≡ true → cond a (onward t (payload_in w h) r) r ≡ []
       go true true e = refl
       go true false e = absurd (true≢false (sym e))
       go false t e = absurd (true≢false (sym e))
 
-  rest_goes_on : (p : Parse) (r : List ℕ) → starts_unit x w p ≡ false → unit_rest_by x w p r ≡ added_by x w p ++ r
+  rest_goes_on : (p : Result TsPacket TsError) (r : List ℕ) → starts_unit x w p ≡ false → unit_rest_by x w p r ≡ added_by x w p ++ r
   unfolding starts_unit added_by
-  rest_goes_on (Parse.Truncated have need) r e = refl
-  rest_goes_on (Parse.BadSyncByte b) r e = refl
-  rest_goes_on (Parse.Packet h) r e = go (eqb h.pid x) (starts h.payload_unit_start (payload_in w h)) e
+  rest_goes_on (Err err) r e = refl
+  rest_goes_on (Ok h) r e = go (eqb h.pid x) (starts h.payload_unit_start (payload_in w h)) e
     where
       go : (a t : Bool) → a && t ≡ false → cond a (onward t (payload_in w h) r) r ≡ cond a (payload_in w h) [] ++ r
       go true true e = absurd (true≢false e)
       go true false e = refl
       go false t e = refl
 
-  open_goes_on : (p : Parse) (u : List ℕ) → starts_unit x w p ≡ false → open_behind x (unit u) w p ≡ unit (u ++ added_by x w p)
+  open_goes_on : (p : Result TsPacket TsError) (u : List ℕ) → starts_unit x w p ≡ false → open_behind x (unit u) w p ≡ unit (u ++ added_by x w p)
   unfolding starts_unit added_by
-  open_goes_on (Parse.Truncated have need) u e = ap unit (sym (append-nil u))
-  open_goes_on (Parse.BadSyncByte b) u e = ap unit (sym (append-nil u))
-  open_goes_on (Parse.Packet h) u e = go (eqb h.pid x) (starts h.payload_unit_start (payload_in w h)) e
+  open_goes_on (Err err) u e = ap unit (sym (append-nil u))
+  open_goes_on (Ok h) u e = go (eqb h.pid x) (starts h.payload_unit_start (payload_in w h)) e
     where
       go : (a t : Bool) → a && t ≡ false → cond a (next (unit u) t (payload_in w h)) (unit u) ≡ unit (u ++ cond a (payload_in w h) [])
       go true true e = absurd (true≢false e)

@@ -7,7 +7,7 @@ use mathlib.Core.Bool.{Bool, true, false, cond, ◌&&◌, and-false, true≢fals
 use native.Mathlib.Omega.{arith}
 use lib.ListN.{length, get_or}
 use lib.Dec.{eqb, leb}
-use Rattle.packet.specs.declared.Detected.{Detected}
+use Rattle.std.specs.Prelude.{Some, None}
 use Rattle.packet.specs.Layout.{in_sync, on_grid, layout, layout_of}
 use Rattle.packet.proofs.Grid.{sync_more, grid_is}
 use Rattle.packet.proofs.Layouts.{Fits, found}
@@ -80,25 +80,25 @@ module _ (marked : ℕ → Bool) (l : List ℕ) where
 
 -- a layout by its tests
 module _ (l : List ℕ) where
-  by_188 : on_grid l 188 0 ≡ true → layout_of l ≡ Detected.Found (layout 188 0)
+  by_188 : on_grid l 188 0 ≡ true → layout_of l ≡ Some (layout 188 0)
   unfolding layout_of
   by_188 a = rw a
 
-  by_192 : on_grid l 188 0 ≡ false → on_grid l 192 4 ≡ true → layout_of l ≡ Detected.Found (layout 192 4)
+  by_192 : on_grid l 188 0 ≡ false → on_grid l 192 4 ≡ true → layout_of l ≡ Some (layout 192 4)
   unfolding layout_of
   by_192 a b = rw (a, b)
 
-  by_204 : on_grid l 188 0 ≡ false → on_grid l 192 4 ≡ false → on_grid l 204 0 ≡ true → layout_of l ≡ Detected.Found (layout 204 0)
+  by_204 : on_grid l 188 0 ≡ false → on_grid l 192 4 ≡ false → on_grid l 204 0 ≡ true → layout_of l ≡ Some (layout 204 0)
   unfolding layout_of
   by_204 a b c = rw (a, b, c)
 
-  by_none : on_grid l 188 0 ≡ false → on_grid l 192 4 ≡ false → on_grid l 204 0 ≡ false → layout_of l ≡ Detected.Nothing
+  by_none : on_grid l 188 0 ≡ false → on_grid l 192 4 ≡ false → on_grid l 204 0 ≡ false → layout_of l ≡ None
   unfolding layout_of
   by_none a b c = rw (a, b, c)
 
 -- The copy with its content zeroed.
 module _ (s : Streams) (l : List ℕ) where
-  found_stays : (size off : ℕ) → layout_of l ≡ Detected.Found (layout size off) → on_grid (zeroed s l) size off ≡ true
+  found_stays : (size off : ℕ) → layout_of l ≡ Some (layout size off) → on_grid (zeroed s l) size off ≡ true
   unfolding content_by
   found_stays size off e =
       passed_stays (content_of_found s l) l size off (found l (layout size off) e).fits

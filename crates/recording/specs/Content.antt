@@ -1,28 +1,26 @@
 -- Content as document 01 has it ('Content, for the blind comparison'), read off the recording, its layout and the stream PIDs; when two
 -- recordings differ only in content; and a recording with its content zeroed.
-use Rattle.std.specs.Prelude.{ℕ, zero, suc, ◌+◌, ◌-◌, ◌/◌, ◌%◌, ◌<◌, ◌≡◌, List, [], ◌∷◌, Bool, true, false, cond, ◌&&◌, length, get_or, ltb, leb, eqb}
-use Rattle.packet.specs.declared.Parse.{Parse}
+use Rattle.std.specs.Prelude.{ℕ, zero, suc, ◌+◌, ◌-◌, ◌/◌, ◌%◌, ◌<◌, ◌≡◌, List, [], ◌∷◌, Bool, true, false, cond, ◌&&◌, length, get_or, ltb, leb, eqb, Option, Some, None, Result, Ok, Err}
+use Rattle.packet.specs.declared.TsPacket.{TsPacket}
+use Rattle.packet.specs.declared.TsError.{TsError}
 use Rattle.packet.specs.declared.TsPacketLayout.{TsPacketLayout}
-use Rattle.packet.specs.declared.Detected.{Detected}
 use Rattle.packet.specs.Packet.{parse_of}
 use Rattle.packet.specs.Layout.{layout_of}
 use Rattle.scanner.specs.Unit.{Open, starts, onward, content_of}
 use Rattle.recording.specs.Read.{Streams, is_stream, packets, packet_at, payload_in, opens_at}
 
 -- what a packet adds to a unit of PID x that is open before it, where r is what the later ones add: 'up to the next such one of its PID'
-abbrev pub unit_rest_by : ℕ → List ℕ → Parse → List ℕ → List ℕ
-unit_rest_by x w (Parse.Packet h) r = cond (eqb h.pid x) (onward (starts h.payload_unit_start (payload_in w h)) (payload_in w h) r) r
-unit_rest_by x w (Parse.Truncated have need) r = r
-unit_rest_by x w (Parse.BadSyncByte b) r = r
+abbrev pub unit_rest_by : ℕ → List ℕ → Result TsPacket TsError → List ℕ → List ℕ
+unit_rest_by x w (Ok h) r = cond (eqb h.pid x) (onward (starts h.payload_unit_start (payload_in w h)) (payload_in w h) r) r
+unit_rest_by x w (Err e) r = r
 
 -- byte j of a packet's 188, by the open units of the PIDs behind it and what these have yet to come. 'Nothing in an unparsed packet's 188
 -- bytes is content'; in a parsed one, of its payload: all where no stream has the PID or no unit of it has begun, else the unit's content
-unfoldable pub content_in : Streams → (ℕ → Open) → (ℕ → List ℕ) → List ℕ → Parse → ℕ → Bool
-content_in s opens rests w (Parse.Packet h) j =
+unfoldable pub content_in : Streams → (ℕ → Open) → (ℕ → List ℕ) → List ℕ → Result TsPacket TsError → ℕ → Bool
+content_in s opens rests w (Ok h) j =
     leb h.payload_start j
     && cond (is_stream s h.pid) (content_of (opens h.pid) (rests h.pid) (length (payload_in w h)) (j - h.payload_start)) true
-content_in s opens rests w (Parse.Truncated have need) j = false
-content_in s opens rests w (Parse.BadSyncByte b) j = false
+content_in s opens rests w (Err e) j = false
 
 module _ (y : TsPacketLayout) where
   -- what n packets from k on add to a unit of PID x
@@ -48,9 +46,9 @@ module _ (y : TsPacketLayout) where
       true
 
 -- the same at the layout that is found; without one there is no content
-unfoldable pub content_by : Detected → Streams → List ℕ → ℕ → Bool
-content_by (Detected.Found y) s l i = content y s l i
-content_by Detected.Nothing s l i = false
+unfoldable pub content_by : Option TsPacketLayout → Streams → List ℕ → ℕ → Bool
+content_by (Some y) s l i = content y s l i
+content_by None s l i = false
 
 abbrev pub content_of_found : Streams → List ℕ → ℕ → Bool
 content_of_found s l i = content_by (layout_of l) s l i

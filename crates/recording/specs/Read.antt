@@ -1,11 +1,10 @@
 -- What a replay may know of a recording: its length, its layout, and of each whole packet either that it does not parse, or its header and
 -- adaptation field with the runs of its payload. A replay's definition takes a Read and never the recording.
-use Rattle.std.specs.Prelude.{ℕ, zero, suc, ◌/◌, List, [], ◌∷◌, Bool, cond, length, eqb}
+use Rattle.std.specs.Prelude.{ℕ, zero, suc, ◌/◌, List, [], ◌∷◌, Bool, cond, length, eqb, Option, Some, None, Result, Ok, Err}
 use Rattle.pes.specs.StreamId.{member}
 use Rattle.packet.specs.declared.TsPacket.{TsPacket}
-use Rattle.packet.specs.declared.Parse.{Parse}
+use Rattle.packet.specs.declared.TsError.{TsError}
 use Rattle.packet.specs.declared.TsPacketLayout.{TsPacketLayout}
-use Rattle.packet.specs.declared.Detected.{Detected}
 use Rattle.packet.specs.Packet.{parse_of, payload_of}
 use Rattle.packet.specs.Layout.{layout_of, window_of}
 use Rattle.scanner.specs.declared.Runs.{Runs}
@@ -24,14 +23,14 @@ pub data Fact : Type 0 where
   parsed : TsPacket → Runs → Fact
 
 -- the parse that a fact tells of; how a parse failed does not enter
-abbrev pub parse_in : Fact → Parse
-parse_in unparsed = Parse.BadSyncByte 0
-parse_in (parsed h r) = Parse.Packet h
+abbrev pub parse_in : Fact → Result TsPacket TsError
+parse_in unparsed = Err (TsError.BadSyncByte 0)
+parse_in (parsed h r) = Ok h
 
 -- the recording's length in bytes, its layout, and a fact for each whole packet, in their order
 pub record Read : Type 0 where
   pub size : ℕ
-  pub layout : Detected
+  pub layout : Option TsPacketLayout
   pub facts : List Fact
 
 -- the number of whole packets (with layout 204 a remainder of 188 bytes or more is none), and the 188 bytes of packet k
@@ -45,16 +44,14 @@ abbrev pub payload_in : List ℕ → TsPacket → List ℕ
 payload_in w h = payload_of w h.payload_start
 
 -- the open unit of PID x behind a packet: a parsed packet of that PID takes it on
-abbrev pub open_behind : ℕ → Open → List ℕ → Parse → Open
-open_behind x o w (Parse.Packet h) = cond (eqb h.pid x) (next_open o h.payload_unit_start (payload_in w h)) o
-open_behind x o w (Parse.Truncated have need) = o
-open_behind x o w (Parse.BadSyncByte b) = o
+abbrev pub open_behind : ℕ → Open → List ℕ → Result TsPacket TsError → Open
+open_behind x o w (Ok h) = cond (eqb h.pid x) (next_open o h.payload_unit_start (payload_in w h)) o
+open_behind x o w (Err e) = o
 
 -- the fact of a packet, by the open units of the PIDs behind it
-unfoldable pub fact_by : Streams → (ℕ → Open) → List ℕ → Parse → Fact
-fact_by s opens w (Parse.Packet h) = parsed h (cond (is_stream s h.pid) (runs_in (opens h.pid) (length (payload_in w h))) no_runs)
-fact_by s opens w (Parse.Truncated have need) = unparsed
-fact_by s opens w (Parse.BadSyncByte b) = unparsed
+unfoldable pub fact_by : Streams → (ℕ → Open) → List ℕ → Result TsPacket TsError → Fact
+fact_by s opens w (Ok h) = parsed h (cond (is_stream s h.pid) (runs_in (opens h.pid) (length (payload_in w h))) no_runs)
+fact_by s opens w (Err e) = unparsed
 
 module _ (y : TsPacketLayout) where
   -- the open unit of PID x behind the first k packets
@@ -72,12 +69,12 @@ module _ (y : TsPacketLayout) where
 
   -- what is read of a recording at a given layout
   unfoldable pub read_at : Streams → List ℕ → Read
-  read_at s l = record { size = length l; layout = Detected.Found y; facts = facts_from s l 0 (packets y l) }
+  read_at s l = record { size = length l; layout = Some y; facts = facts_from s l 0 (packets y l) }
 
 -- the same at the layout that is found; without one there are no packets
-unfoldable pub read_by : Detected → Streams → List ℕ → Read
-read_by (Detected.Found y) s l = read_at y s l
-read_by Detected.Nothing s l = record { size = length l; layout = Detected.Nothing; facts = [] }
+unfoldable pub read_by : Option TsPacketLayout → Streams → List ℕ → Read
+read_by (Some y) s l = read_at y s l
+read_by None s l = record { size = length l; layout = None; facts = [] }
 
 abbrev pub read_of : Streams → List ℕ → Read
 read_of s l = read_by (layout_of l) s l
