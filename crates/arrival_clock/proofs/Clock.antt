@@ -1,5 +1,6 @@
 -- What a caller of `build` has: the answer is that of the clock of the packets' samples, an accepted clock stands in the work,
 -- and the work is as it was elsewhere. Assumes nothing.
+use Rattle.std.specs.Prelude.{Result, Ok, Err}
 use Prim.Native.Nat.{ℕ, zero, suc, ◌*◌, ◌^◌, ◌≤◌, ◌<◌}
 use mathlib.Core.Path.{◌≡◌, refl, sym, ap, ◌∙◌}
 use mathlib.Core.Bool.{true}
@@ -7,9 +8,9 @@ use mathlib.Core.List.{List}
 use lib.ListN.{length}
 use lib.Ieee.{Float}
 use Rattle.error.specs.declared.Refusal.{Refusal}
-use Rattle.packet.specs.declared.Parse.{Parse}
+use Rattle.packet.specs.declared.TsPacket.{TsPacket}
+use Rattle.packet.specs.declared.TsError.{TsError}
 use Rattle.packet.specs.declared.TsPacketLayout.{TsPacketLayout}
-use Rattle.arrival.specs.declared.ClockAnswer.{ClockAnswer}
 use Rattle.arrival.specs.ArrivalClock.{intervals, refused, build}
 use Rattle.arrival.specs.Samples.{samples_of}
 use Rattle.arrival.specs.Work.{holds, intervals_in}
@@ -26,9 +27,9 @@ parses_length y l k zero = refl
 parses_length y l k (suc n) = ap suc (parses_length y l (suc k) n)
 
 module _ (y : TsPacketLayout) (l : List ℕ) (count pcrPid depth : ℕ) (times : List Float) (from : ℕ) (places : List ℕ)
-    {answer : ClockAnswer} {times' : List Float} {places' : List ℕ}
+    {answer : Result ℕ Refusal} {times' : List Float} {places' : List ℕ}
     (is : Answers depth (pass_over pcrPid depth from times places (parses_from y l 0 count)) answer times' places') where
-  abbrev ps : List Parse
+  abbrev ps : List (Result TsPacket TsError)
   ps = parses_from y l 0 count
 
   -- lengths, the floats before from and from from + 3 * depth on, and the numbers from 2 * depth on
@@ -39,10 +40,10 @@ module _ (y : TsPacketLayout) (l : List ℕ) (count pcrPid depth : ℕ) (times :
     shorter : 188 * length ps < 2 ^ 63
     shorter = rw (parses_length y l 0 count) short
 
-    pub build_refused : {r : Refusal} → answer ≡ ClockAnswer.Refused r → build depth (samples_of pcrPid ps) ≡ refused r
+    pub build_refused : {r : Refusal} → answer ≡ Err r → build depth (samples_of pcrPid ps) ≡ refused r
     build_refused e = answers.refused_is pcrPid depth from times places ps shallow room shorter (sym is.answer_is ∙ e)
 
-    module _ (n : ℕ) (e : answer ≡ ClockAnswer.Intervals n) where
+    module _ (n : ℕ) (e : answer ≡ Ok n) where
       pub build_intervals : build depth (samples_of pcrPid ps) ≡ intervals (intervals_in times' from places' 0 n)
       build_intervals =
           rw (is.times_are, is.places_are) (answers.clock_is pcrPid depth from times places ps shallow room shorter n (sym is.answer_is ∙ e))

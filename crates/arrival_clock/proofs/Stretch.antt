@@ -1,4 +1,5 @@
 -- Packets behind one another: how many lie in a recording, and how far the search for the next field has come. Assumes nothing.
+use Rattle.std.specs.Prelude.{None}
 use Prim.Native.Nat.{ℕ, ◌+◌, ◌-◌, ◌*◌, ◌/◌, ◌≤◌}
 use mathlib.Core.Path.{◌≡◌, refl}
 use mathlib.Core.Bool.{Bool, true, false}
@@ -7,7 +8,6 @@ use native.Mathlib.Omega.{arith}
 use lib.Dec.{eqb}
 use lib.ListN.{length, take, drop}
 use borrow.Author.Tests.{eqb-true, eqb-false}
-use Rattle.packet.specs.declared.MaybeAdaptationField.{MaybeAdaptationField}
 use Rattle.packet.specs.declared.TsPacketLayout.{TsPacketLayout}
 use Rattle.packet.specs.Packet.{parse_of}
 use Rattle.packet.specs.Layout.{layout}
@@ -38,16 +38,16 @@ module _ (pcrPid : ℕ) (l : List ℕ) (size off k : ℕ) where
   search_starts = record { onward = omega arith; place_is = refl; none_yet = λ i from before. absurd (omega arith) }
 
   pub search_on : {next place : ℕ} → Searched next place → place + 188 ≤ length l
-      → field_on pcrPid (parse_of (take 188 (drop place l))) ≡ MaybeAdaptationField.Absent → Searched (next + 1) (place + size)
+      → field_on pcrPid (parse_of (take 188 (drop place l))) ≡ None → Searched (next + 1) (place + size)
   search_on {next} {place} s fits none =
       record { onward = omega (arith, s.onward); place_is = step_on next size off place s.place_is; none_yet = each }
     where
-      here : field_on pcrPid (parse_of (packet_at (layout size off) l next)) ≡ MaybeAdaptationField.Absent
+      here : field_on pcrPid (parse_of (packet_at (layout size off) l next)) ≡ None
       here = rw (window_is l size off next (rw s.place_is at fits)) (rw s.place_is at none)
 
       each : NoFieldOn pcrPid (layout size off) l k (next + 1)
       each i from before = go (eqb i next) refl
         where
-          go : (t : Bool) → eqb i next ≡ t → field_on pcrPid (parse_of (packet_at (layout size off) l i)) ≡ MaybeAdaptationField.Absent
+          go : (t : Bool) → eqb i next ≡ t → field_on pcrPid (parse_of (packet_at (layout size off) l i)) ≡ None
           go true e = rw (eqb-true i next e) here
           go false e = s.none_yet i from (omega (arith, eqb-false i next e))

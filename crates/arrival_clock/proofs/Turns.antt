@@ -1,4 +1,5 @@
 -- The pass by turns of the loop: packets that change the start alone, one packet that is parsed, and the end. Assumes nothing.
+use Rattle.std.specs.Prelude.{Result}
 use Prim.Native.Nat.{ℕ, zero, suc, ◌+◌, ◌-◌, ◌*◌, ◌/◌, ◌≤◌, ◌<◌, min}
 use mathlib.Core.Path.{◌≡◌, refl, sym}
 use mathlib.Core.Bool.{Bool, true, false, cond}
@@ -7,10 +8,10 @@ use native.Mathlib.Omega.{arith}
 use lib.Dec.{leb}
 use lib.Ieee.{Float}
 use borrow.Author.Tests.{leb-true, leb-false}
+use Rattle.error.specs.declared.Refusal.{Refusal}
 use Rattle.packet.specs.declared.TsPacketLayout.{TsPacketLayout}
 use Rattle.packet.specs.Packet.{parse_of}
 use Rattle.recording.specs.Read.{packet_at}
-use Rattle.arrival.specs.declared.ClockAnswer.{ClockAnswer}
 use Rattle.arrival.specs.declared.ClockPass.{ClockPass}
 use Rattle.arrival.specs.Work.{never}
 use Rattle.arrival.specs.Pass.{no_packet, answer_of, Passing, other_packet, pass_packet, pass_packets, Passes}
@@ -73,7 +74,7 @@ module _ (pcrPid depth from : ℕ) (y : TsPacketLayout) (l : List ℕ) (count : 
           ends = rw (step.pass_is, step.times_are, step.places_are, window) (rw one (rw (left, one) at here.ends));
         }
 
-    pub all_passed : count ≤ k → {answer : ClockAnswer} → answer ≡ answer_of depth pass.build → Answers depth end answer times places
+    pub all_passed : count ≤ k → {answer : Result ℕ Refusal} → answer ≡ answer_of depth pass.build → Answers depth end answer times places
     unfolding pass_packets parses_from
     all_passed done e =
         let none : count - k ≡ 0 = omega arith in

@@ -1,15 +1,15 @@
 // Pass 1 of the replay: the arrival clock is built from the packets of a recording, in lent work.
 #![tactic(auto)]
 
-ghost use Rattle.std.specs.Prelude.{◌≡◌, false, ◌+◌, ◌-◌, ◌*◌, ◌/◌, ◌≤◌, min, max, length, take, drop};
-ghost use Rattle.packet.specs.declared.MaybeAdaptationField.{MaybeAdaptationField};
+ghost use Rattle.std.specs.Prelude.{◌≡◌, false, ◌+◌, ◌-◌, ◌*◌, ◌/◌, ◌≤◌, min, max, length, take, drop, None};
 ghost use Rattle.packet.specs.Packet.{parse_of};
 ghost use Rattle.arrival.specs.Samples.{field_on};
 ghost use Rattle.arrival.specs.Work.{never};
 ghost use Rattle.arrival_clock.specs.Clock.{parses_from, pass_over, Answers};
 ghost use Rattle.arrival_clock.specs.Stretch.{Whole, NoFieldOn};
 
-use arrival::{ClockAnswer, ClockPass};
+use arrival::ClockPass;
+use error::Refusal;
 use packet::{TsPacket, TsPacketLayout};
 
 // How many packets from the first on, at most `count`, are known to lie in the recording: none where a packet is shorter than 188
@@ -19,32 +19,23 @@ fn whole_packets(bytes: &[u8], layout: TsPacketLayout, count: usize) -> usize
 {
     let size = layout.packet_size;
     let len = bytes.len();
-    if size < 188 {
-        return 0;
-    }
-    if len < size {
+    if (size < 188) | (len < size) {
         return 0;
     }
     let room = len - 188;
     if room < layout.sync_offset {
         return 0;
     }
-    let whole = (room - layout.sync_offset) / size + 1;
-    if count < whole {
-        return count;
-    }
-    whole
+    count.min((room - layout.sync_offset) / size + 1)
 }
 
 // Whether the packet at a place is of the PCR PID and has an adaptation field, by bytes 1 to 3 alone.
 fn has_field_at(bytes: &[u8], place: usize, pcr_pid: u16) -> bool
     requires { place + 188 ≤ length bytes.now }
-    ensures { result ≡ false → field_on pcr_pid (parse_of (take 188 (drop place bytes.now))) ≡ MaybeAdaptationField.Absent }
+    ensures { result ≡ false → field_on pcr_pid (parse_of (take 188 (drop place bytes.now))) ≡ None }
 {
-    if bytes[place + 3] / 32 % 2 != 1 {
-        return false;
-    }
-    header::pid_of(bytes[place + 1], bytes[place + 2]) == pcr_pid
+    let has_field = bytes[place + 3] / 32 % 2 == 1;
+    has_field && packet::pid_of(bytes[place + 1], bytes[place + 2]) == pcr_pid
 }
 
 // The next packet, from packet k on and before `end`, that has an adaptation field on the PCR PID; else where the search ends.
@@ -56,16 +47,14 @@ fn next_field_on(bytes: &[u8], layout: TsPacketLayout, k: usize, end: usize, pcr
         return k;
     }
     let size = layout.packet_size;
-    let mut next = k;
     let mut place = k * size + layout.sync_offset;
-    while next < end {
+    for next in k..end {
         if has_field_at(bytes, place, pcr_pid) {
             return next;
         }
-        next += 1;
         place += size;
     }
-    next
+    end
 }
 
 // Where the packet begins that follows n packets from `start` on. A packet whose end has no position does not move it.
@@ -73,11 +62,7 @@ fn start_behind(start: u64, n: usize) -> u64
     ensures { result ≡ start + 188 * min n ((never - start) / 188) }
 {
     let room = (u64::MAX - start) / 188;
-    let wanted = n as u64;
-    if room < wanted {
-        return start + 188 * room;
-    }
-    start + 188 * wanted
+    start + 188 * room.min(n as u64)
 }
 
 // Only a packet with an adaptation field on the PCR PID is parsed, or one that is not known to lie in the recording. All before the
@@ -92,7 +77,7 @@ pub fn build(
     times: &mut [f64],
     from: usize,
     places: &mut [u64],
-) -> ClockAnswer
+) -> Result<usize, Refusal>
     ensures { Answers depth (pass_over pcr_pid depth from times.old places.old (parses_from layout bytes.now 0 count)) result times.new places.new }
 {
     let mut pass = ClockPass::new();
@@ -108,6 +93,5 @@ pub fn build(
             k += 1;
         }
     }
-    let built = pass.build;
-    built.answer(depth)
+    pass.build.answer(depth)
 }

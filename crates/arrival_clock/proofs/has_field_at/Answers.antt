@@ -5,12 +5,12 @@ use mathlib.Core.Path.{◌∙◌}
 use borrow.Author.Tests.{eqb-false}
 use Rattle.arrival_clock.proofs.has_field_at.Goals as goal
 
-pub returns-then-bytes-place-ne1 : goal.returns-then-bytes-place-ne1
-returns-then-bytes-place-ne1 c =
-    let l = c.args.bytes.now in
-    λ e. bare_at _ l (of_slice l c.type_inv.bytes) _ c.requires c.if-bytes-place-ne1.true
-
-pub returns : goal.returns
-returns c =
+pub returns-then-has_field : goal.returns-then-has_field
+returns-then-has_field c =
     let l = c.args.bytes.now in
     λ e. elsewhere_at _ l (of_slice l c.type_inv.bytes) _ (λ g. eqb-false _ _ e (c.pid_of.ensures ∙ g))
+
+pub returns-else-has_field : goal.returns-else-has_field
+returns-else-has_field c =
+    let l = c.args.bytes.now in
+    λ e. bare_at _ l (of_slice l c.type_inv.bytes) _ c.requires (eqb-false _ _ e)

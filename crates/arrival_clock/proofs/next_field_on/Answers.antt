@@ -15,23 +15,21 @@ pub overflow_add-place : goal.overflow_add-place
 overflow_add-place c = omega (arith, c.requires.inside _ c.if-end-k.false)
 
 pub loop-next-init : goal.loop-next-init
-loop-next-init c = (omega arith, λ off e. rw e (search_starts _ _ _ off _))
+loop-next-init c = λ off e. rw e (search_starts _ _ _ off _)
 
 pub has_field_at-requires : goal.has_field_at-requires
-has_field_at-requires c = rw (c.loop-next.invariant.1 _ refl).place_is (c.requires.inside _ c.loop-next-test.true)
+has_field_at-requires c = rw (c.loop-next.invariant _ refl).place_is (c.requires.inside _ c.loop-next-test.true)
 
 pub returns-then-has_field_at : goal.returns-then-has_field_at
-returns-then-has_field_at c = ((c.loop-next.invariant.1 _ refl).onward, omega arith, (c.loop-next.invariant.1 _ refl).none_yet)
+returns-then-has_field_at c = ((c.loop-next.invariant _ refl).onward, omega arith, (c.loop-next.invariant _ refl).none_yet)
 
 pub overflow_add-place-in-loop-next : goal.overflow_add-place-in-loop-next
 overflow_add-place-in-loop-next c =
-    omega (arith, c.requires.inside _ c.loop-next-test.true, c.requires.size_within (omega arith), (c.loop-next.invariant.1 _ refl).place_is)
+    omega (arith, c.requires.inside _ c.loop-next-test.true, c.requires.size_within (omega arith), (c.loop-next.invariant _ refl).place_is)
 
 pub loop-next-preserved : goal.loop-next-preserved
-loop-next-preserved c = (
-  omega arith,
-  λ off e. search_on _ _ _ _ _ (c.loop-next.invariant.1 off e) (rw (c.loop-next.invariant.1 _ refl).place_is (c.requires.inside _ c.loop-next-test.true)) (c.has_field_at.ensures c.if-has_field_at.false),
-)
+loop-next-preserved c =
+    λ off e. search_on _ _ _ _ _ (c.loop-next.invariant off e) (rw (c.loop-next.invariant _ refl).place_is (c.requires.inside _ c.loop-next-test.true)) (c.has_field_at.ensures c.if-has_field_at.false)
 
 pub returns : goal.returns
-returns c = ((c.loop-next.invariant.1 _ refl).onward, omega arith, (c.loop-next.invariant.1 _ refl).none_yet)
+returns c = (omega arith, omega arith, λ i from before. (c.loop-next.invariant _ refl).none_yet i from (omega arith))

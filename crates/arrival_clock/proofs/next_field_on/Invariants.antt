@@ -1,12 +1,9 @@
 -- `arrival_clock::next_field_on` meets its contract. The invariant: no field before `next`, and its packet is looked for at its place.
 -- Assumes nothing.
 use Rattle.arrival_clock.proofs.Stretch.{Searched}
-use Prim.Native.Nat.{ℕ, ◌+◌, ◌*◌, ◌-◌, ◌≤◌}
+use Prim.Native.Nat.{ℕ, ◌+◌, ◌*◌}
 use mathlib.Core.Path.{◌≡◌}
 use Rattle.arrival_clock.proofs.next_field_on.Given as goal
 
 abbrev pub invariant-loop-next : goal.invariant-loop-next
-invariant-loop-next l = (l.next ≤ l.end) × ((off : ℕ) → l.initial.place ≡ l.k * l.size + off → Searched l.pcr_pid l.bytes l.size off l.k l.next l.place)
-
-abbrev pub decreases-loop-next : goal.decreases-loop-next
-decreases-loop-next l = l.end - l.next
+invariant-loop-next l = (off : ℕ) → l.initial.place ≡ l.k * l.size + off → Searched l.pcr_pid l.bytes l.size off l.k l.next l.place
