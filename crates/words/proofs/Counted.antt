@@ -3,29 +3,28 @@
 use Prim.Native.Nat.{ℕ, ◌≤◌, ◌<◌}
 use mathlib.Core.Path.{◌≡◌, refl, sym, ap, ◌∙◌}
 use mathlib.Core.Bool.{Bool, true, false, cond, ◌&&◌}
-use mathlib.Core.List.{List, [], ◌∷◌, map}
+use mathlib.Core.List.{List}
 use native.Mathlib.Omega.{arith}
 use lib.ListN.{length, get_or}
+use Rattle.std.specs.Prelude.{Ok, Err}
+use Rattle.std.specs.List.{list_all, range_with_len}
+use Rattle.std.proofs.lemmas.List.Folds.{list_all-map}
 use lib.Dec.{eqb, leb}
 use borrow.Author.Tests.{eqb-false, leb-true}
 use Rattle.error.specs.declared.Refusal.{Refusal}
-use Rattle.error.specs.Code.{code_numbered, code_of}
 use Rattle.profile.specs.declared.model.TStdBranch.TheVariants.{Main, Video}
 use Rattle.profile.specs.declared.config.TStdConfig.{TStdConfig}
 use Rattle.profile.specs.declared.limits.Limits.{Limits}
 use Rattle.profile.specs.declared.work.WorkSize.{WorkSize}
-use Rattle.profile.specs.declared.work.Checked.{Checked}
 use Rattle.profile.specs.Range.{max_streams, max_system_pids}
-use Rattle.profile.specs.Config.{default_config}
-use Rattle.profile.specs.Every.{every}
 use Rattle.profile.specs.Work.{check_of}
 use Rattle.profile.proofs.Ranges.{and_left, and_right}
 use Rattle.profile.proofs.Within.{limits_within}
 use Rattle.profile.proofs.Sizes.{check_outside}
-use Rattle.words.specs.Config.{profile_len, up_to, slot_word, system_word, pid_fits, slot_fits, slots_fit, system_fits, profile_fits, branch_of, stream_at, slot_streams, slot_pids, config_at, config_of}
+use Rattle.words.specs.Config.{profile_len, slot_word, system_word, pid_fits, slot_fits, slots_fit, system_fits, profile_fits, branch_of, stream_at, slot_streams, slot_pids, config_at, config_of, Fits}
 use Rattle.words.specs.Counted.{SlotAlike, Alike}
 use Rattle.words.proofs.UpTo.{map_alike}
-use Rattle.words.proofs.Profile.{Fits, fits}
+use Rattle.words.proofs.Profile.{fits}
 
 never_true : (b : Bool) → (b ≡ true → ⊥) → b ≡ false
 never_true true h = absurd (h refl)
@@ -33,34 +32,31 @@ never_true false h = refl
 
 -- ---- a count above its limit
 module _ (ws : List ℕ) where
-  refused : (Fits ws → ⊥) → (config_of ws).code ≡ code_numbered 1
-  unfolding config_of code_of
+  refused : (Fits ws → ⊥) → config_of ws ≡ Err Refusal.OutsideLimits
+  unfolding config_of
   refused h = rw (never_true (profile_fits ws) (λ e. h (fits ws e)))
 
-  pub streams_above : max_streams < get_or ws 1 0 → (config_of ws).code ≡ code_numbered 1
+  pub streams_above : max_streams < get_or ws 1 0 → config_of ws ≡ Err Refusal.OutsideLimits
   streams_above h = refused (λ f. omega (arith, f.streams))
 
-  pub system_above : max_system_pids < get_or ws 2 0 → (config_of ws).code ≡ code_numbered 1
+  pub system_above : max_system_pids < get_or ws 2 0 → config_of ws ≡ Err Refusal.OutsideLimits
   system_above h = refused (λ f. omega (arith, f.system))
 
 module _ (limits : Limits) (c : TStdConfig) (lent : WorkSize) (recording : ℕ) where
-  pub replay_streams_above : max_streams < c.stream_count → check_of limits c lent recording ≡ Checked.Refused Refusal.OutsideLimits
+  pub replay_streams_above : max_streams < c.stream_count → check_of limits c lent recording ≡ Err Refusal.OutsideLimits
   replay_streams_above h =
       check_outside limits c lent recording (never_true _ (λ e. omega (arith, (limits_within limits c e).stream_count)))
 
-  pub replay_system_above : max_system_pids < c.system_count → check_of limits c lent recording ≡ Checked.Refused Refusal.OutsideLimits
+  pub replay_system_above : max_system_pids < c.system_count → check_of limits c lent recording ≡ Err Refusal.OutsideLimits
   replay_system_above h =
       check_outside limits c lent recording (never_true _ (λ e. omega (arith, (limits_within limits c e).system_count)))
 
 -- ---- the words that count
-every_map : (p : ℕ → Bool) (l : List ℕ) → every p l ≡ every (λ (b : Bool). b) (map p l)
-unfolding every
-every_map p [] = refl
-every_map p (a ∷ l) = rw (every_map p l)
-
-every_alike : (p q : ℕ → Bool) (n : ℕ) → ((i : ℕ) → i < n → p i ≡ q i) → every p (up_to n) ≡ every q (up_to n)
-every_alike p q n h =
-    every_map p (up_to n) ∙ ap (every (λ (b : Bool). b)) (map_alike p q n h) ∙ sym (every_map q (up_to n))
+all_alike : (p q : ℕ → Bool) (n : ℕ) → ((i : ℕ) → i < n → p i ≡ q i) → list_all p (range_with_len 0 n) ≡ list_all q (range_with_len 0 n)
+all_alike p q n h =
+    sym (list_all-map (λ (b : Bool). b) p (range_with_len 0 n))
+    ∙ ap (list_all (λ (b : Bool). b)) (map_alike p q n h)
+    ∙ list_all-map (λ (b : Bool). b) q (range_with_len 0 n)
 
 and_alike : (a b c : Bool) → (a ≡ true → b ≡ c) → a && b ≡ a && c
 and_alike true b c h = h refl
@@ -101,12 +97,12 @@ module _ (ws vs : List ℕ) (a : Alike ws vs) where
   slots_fit_alike : get_or ws 1 0 ≤ max_streams → slots_fit ws (get_or ws 1 0) ≡ slots_fit vs (get_or ws 1 0)
   unfolding slots_fit
   slots_fit_alike h =
-      every_alike (slot_fits ws) (slot_fits vs) (get_or ws 1 0) (λ i l. slot_fits_alike ws vs i (a.slots i (omega arith) l))
+      all_alike (slot_fits ws) (slot_fits vs) (get_or ws 1 0) (λ i l. slot_fits_alike ws vs i (a.slots i (omega arith) l))
 
   system_fits_alike : get_or ws 2 0 ≤ max_system_pids → system_fits ws (get_or ws 2 0) ≡ system_fits vs (get_or ws 2 0)
   unfolding system_fits
   system_fits_alike h =
-      every_alike (λ (i : ℕ). pid_fits (system_word ws i)) (λ (i : ℕ). pid_fits (system_word vs i)) (get_or ws 2 0) (λ i l. ap pid_fits (a.system i (omega arith) l))
+      all_alike (λ (i : ℕ). pid_fits (system_word ws i)) (λ (i : ℕ). pid_fits (system_word vs i)) (get_or ws 2 0) (λ i l. ap pid_fits (a.system i (omega arith) l))
 
   config_alike : Fits ws → config_at ws ≡ config_at vs
   unfolding config_at slot_streams slot_pids
@@ -137,5 +133,5 @@ module _ (ws vs : List ℕ) (a : Alike ws vs) where
   pub read_alike : config_of ws ≡ config_of vs
   unfolding config_of
   read_alike =
-      cond_alike (profile_fits ws) (record { code = code_numbered 0; config = config_at ws }) (record { code = code_numbered 0; config = config_at vs }) (record { code = code_of Refusal.OutsideLimits; config = default_config }) (λ e. ap (λ (c : TStdConfig). record { code = code_numbered 0; config = c }) (config_alike (fits ws e)))
+      cond_alike (profile_fits ws) (Ok (config_at ws)) (Ok (config_at vs)) (Err Refusal.OutsideLimits) (λ e. ap Ok (config_alike (fits ws e)))
       ∙ rw fits_alike

@@ -9,7 +9,7 @@ use lib.ListN.{length, get_or}
 use lib.Dec.{eqb, leb}
 use borrow.Author.Tests.{eqb-true, leb-true, eq-eqb, ne_eqb, le-leb, lt-leb}
 use Rattle.profile.proofs.Ranges.{and_left, and_right}
-use Rattle.words.specs.Config.{profile_len, slot_word, pid_fits, slot_fits, slots_fit, system_fits, profile_fits, branch_of, stream_at}
+use Rattle.words.specs.Config.{slot_word, pid_fits, slot_fits, slots_fit, system_fits, profile_fits, branch_of, stream_at, Fits}
 
 module _ (ws : List ℕ) (i : ℕ) where
   first : slot_word ws i 0 ≡ get_or ws (5 + 6 * i) 0
@@ -33,15 +33,6 @@ module _ (ws : List ℕ) (i : ℕ) where
 
 pub pid_below : (n : ℕ) → pid_fits n ≡ true → n < 65536
 pid_below n e = let p = leb-true n 65535 e in omega arith
-
--- what a profile that fits has
-pub record Fits (ws : List ℕ) : Type 0 where
-  pub size : length ws ≡ profile_len
-  pub streams : get_or ws 1 0 ≤ 8
-  pub system : get_or ws 2 0 ≤ 16
-  pub pcr : get_or ws 0 0 < 65536
-  pub slots : slots_fit ws (get_or ws 1 0) ≡ true
-  pub pids : system_fits ws (get_or ws 2 0) ≡ true
 
 module _ (ws : List ℕ) where
   pub fits : profile_fits ws ≡ true → Fits ws

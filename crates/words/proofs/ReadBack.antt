@@ -2,23 +2,25 @@
 use Prim.Native.Nat.{ℕ, zero, suc, ◌+◌, ◌*◌, ◌≤◌, ◌<◌}
 use mathlib.Core.Path.{◌≡◌, refl, sym, ap, ◌∙◌}
 use mathlib.Core.Bool.{true, ◌&&◌}
-use mathlib.Core.List.{List, [], ◌∷◌, ◌++◌, map, map-append, flat_map, append_assoc}
+use mathlib.Core.List.{List, [], ◌∷◌, ◌++◌, map, flat_map, append_assoc}
 use native.Mathlib.Nat.{add_assoc, mul-suc, mul-zero, zero-add}
 use native.Mathlib.Omega.{arith}
 use lib.ListN.{length, take, get_or, length-append, get_or-append}
-use lib.Seq.{take-suc, get_or-append-add}
+use lib.Seq.{length-take-le, get_or-take, get_or-append-add}
 use lib.Dec.{leb}
+use Rattle.std.specs.Prelude.{Ok}
+use Rattle.std.specs.List.{range_with_len}
+use Rattle.std.proofs.lemmas.List.FromFn.{fill_by_all}
 use borrow.Author.Tests.{le-leb}
-use Rattle.error.specs.Code.{code_numbered}
 use Rattle.profile.specs.declared.model.TStdBranch.{TStdBranch}
 use Rattle.profile.specs.declared.model.TStdBranch.TheVariants.{Main, Video}
 use Rattle.profile.specs.declared.config.TStdStream.{TStdStream}
 use Rattle.profile.specs.declared.config.TStdConfig.{TStdConfig}
 use Rattle.profile.specs.Config.{unused_stream}
 use Rattle.profile.proofs.Ranges.{and_both}
-use Rattle.words.specs.Config.{profile_len, up_to, slot_word, system_word, pid_fits, slot_fits, slots_fit, system_fits, profile_fits, branch_of, stream_at, slot_streams, slot_pids, config_at, config_of}
+use Rattle.words.specs.Config.{profile_len, slot_word, system_word, pid_fits, slot_fits, slots_fit, system_fits, profile_fits, branch_of, stream_at, slot_streams, slot_pids, config_at, config_of}
 use Rattle.words.specs.Profile.{branch_words, stream_words, profile_words, Plain}
-use Rattle.words.proofs.UpTo.{map_alike, every_all}
+use Rattle.words.proofs.UpTo.{map_alike, passes_all}
 use Rattle.words.proofs.Stores.{flat_length}
 use Rattle.words.proofs.Profile.{by_slots}
 
@@ -53,11 +55,9 @@ unfolding branch_words
 kind_most (Main size) = omega arith
 kind_most (Video rbx mb eb) = omega arith
 
-map_get_d : {A : Type 0} (l : List A) (d : A) (n : ℕ) → n ≤ length l → map (λ (i : ℕ). get_or l i d) (up_to n) ≡ take n l
-unfolding up_to
-map_get_d l d zero h = refl
-map_get_d l d (suc n) h =
-    rw (map-append (λ (i : ℕ). get_or l i d) (up_to n) (n ∷ []), map_get_d l d n (omega arith), take-suc l n d h)
+map_get_or : {A : Type 0} (l : List A) (d : A) (n : ℕ) → n ≤ length l → map (λ (i : ℕ). get_or l i d) (range_with_len 0 n) ≡ take n l
+map_get_or l d n h =
+    sym (fill_by_all (λ (i : ℕ). get_or l i d) (take n l) n d (length-take-le n l h) (λ k j. get_or-take n l k d j))
 
 module _ (c : TStdConfig) (p : Plain c) where
   abbrev ws : List ℕ
@@ -103,12 +103,12 @@ module _ (c : TStdConfig) (p : Plain c) where
   slots_fit_lem : slots_fit ws c.stream_count ≡ true
   unfolding slots_fit
   slots_fit_lem =
-      every_all (slot_fits ws) c.stream_count (λ i l. slot_fits_lem i (omega (arith, p.streams)) (p.pids i l))
+      passes_all (slot_fits ws) c.stream_count (λ i l. slot_fits_lem i (omega (arith, p.streams)) (p.pids i l))
 
   system_fits_lem : system_fits ws c.system_count ≡ true
   unfolding system_fits
   system_fits_lem =
-      every_all (λ (i : ℕ). pid_fits (system_word ws i)) c.system_count (λ i l. rw (system_at i) (le-leb (get_or c.system_pids i 0) 65535 (omega (arith, p.system_pids i l))))
+      passes_all (λ (i : ℕ). pid_fits (system_word ws i)) c.system_count (λ i l. rw (system_at i) (le-leb (get_or c.system_pids i 0) 65535 (omega (arith, p.system_pids i l))))
 
   profile_fits_lem : profile_fits ws ≡ true
   unfolding profile_words
@@ -123,8 +123,8 @@ module _ (c : TStdConfig) (p : Plain c) where
   config_back =
       let streams = map_alike (stream_at ws) (λ (i : ℕ). get_or c.streams i unused_stream) c.stream_count (λ i l. stream_at_lem i (omega (arith, p.streams))) in
       let pids = map_alike (system_word ws) (λ (i : ℕ). get_or c.system_pids i 0) c.system_count (λ i l. system_at i) in
-      rw (streams, pids, map_get_d c.streams unused_stream c.stream_count (omega (arith, p.streams, p.slots)), map_get_d c.system_pids 0 c.system_count (omega (arith, p.system, p.system_slots)), ← p.unused, ← p.system_unused)
+      rw (streams, pids, map_get_or c.streams unused_stream c.stream_count (omega (arith, p.streams, p.slots)), map_get_or c.system_pids 0 c.system_count (omega (arith, p.system, p.system_slots)), ← p.unused, ← p.system_unused)
 
-  pub read_back : config_of (profile_words c) ≡ record { code = code_numbered 0; config = c }
+  pub read_back : config_of (profile_words c) ≡ Ok c
   unfolding config_of
   read_back = rw (profile_fits_lem, config_back)

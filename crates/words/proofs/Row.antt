@@ -5,10 +5,11 @@ use mathlib.Core.List.{List, [], ◌∷◌, flat_map}
 use native.Mathlib.Nat.{min-zero, zero-min, suc-min-suc, min-le_left, min-le_right, zero-add}
 use native.Mathlib.Omega.{arith}
 use lib.ListN.{length, take, drop, get_or, length-append, length-take, length-drop}
-use lib.Seq.{sets, take-nil, length-take-le}
+use lib.Seq.{take-nil, length-take-le}
 use Rattle.report.specs.declared.TStdChainStats.{TStdChainStats}
 use Rattle.words.specs.Row.{chain_words, row_after}
-use Rattle.words.proofs.Stores.{Written, written_none, written_next, flat_length}
+use borrow.Rule.Slice.PartMut.{put_mid}
+use Rattle.words.proofs.Stores.{Written, written_next, flat_length}
 
 pub chain_size : (s : TStdChainStats) → length (chain_words s) ≡ 6
 unfolding chain_words
@@ -26,36 +27,19 @@ module _ {A : Type 0} where
   take_cut (suc n) [] = rw (min-zero (suc n))
   take_cut (suc n) (a ∷ l) = rw (suc-min-suc n (length l)) (ap (λ (r : List A). a ∷ r) (take_cut n l))
 
--- the loop over the first end chains has written the first i records
-pub record Rowed (chains : List TStdChainStats) (end : ℕ) (before row : List ℕ) (i : ℕ) : Type 0 where
-  pub chains_size : length chains ≡ 9
-  pub most : end ≤ 9
-  pub room : 6 * end ≤ length before
-  pub reached : i ≤ end
-  pub words : Written chain_words 6 0 chains before row i
-
-pub row_next : (chains : List TStdChainStats) (end : ℕ) (before row : List ℕ) (i : ℕ) (d : TStdChainStats) → Rowed chains end before row i → i < end → Rowed chains end before (sets row (6 * i) (chain_words (get_or chains i d))) (i + 1)
-row_next chains end before row i d r h =
-    let size = r.chains_size in
-    let most = r.most in
-    let room = r.room in
-    let next = written_next chain_words 6 0 chain_size chains before row i d (omega arith) (omega arith) r.words in
-    record { chains_size = size; most = most; room = room; reached = omega arith; words = rw (zero-add (6 * i)) at next }
-
 -- as many records as there are chains in use and the row has room for
 module _ (chains : List TStdChainStats) (count end : ℕ) (row : List ℕ) (size : length chains ≡ 9) (e : end ≡ min (min count 9) (length row / 6)) where
   most : end ≤ 9
   most = omega (arith, e, min-le_left (min count 9) (length row / 6), min-le_right count 9)
 
-  pub row_starts : Rowed chains end row row 0
-  row_starts =
-      record {
-        chains_size = size;
-        most = most;
-        room = omega (arith, e, min-le_right (min count 9) (length row / 6));
-        reached = omega arith;
-        words = written_none chain_words 6 0 chain_size chains row;
-      }
+  room : 6 * end ≤ length row
+  room = omega (arith, e, min-le_right (min count 9) (length row / 6))
+
+  pub row_next : (ws v : List ℕ) (i at k : ℕ) (d : TStdChainStats) → i < end → at ≡ 6 * i → k ≡ 6 → v ≡ chain_words (get_or chains i d) → Written chain_words 6 0 chains row ws i → Written chain_words 6 0 chains row (put_mid at k ws v) (i + 1)
+  row_next ws v i at k d h a n is p =
+      let most = most in
+      let room = room in
+      written_next chain_words 6 0 chain_size chains row ws i d (omega arith) (omega arith) p at k v (a ∙ sym (zero-add (6 * i))) n is
 
   in_use : take end chains ≡ take (length row / 6) (take count chains)
   in_use =
@@ -63,12 +47,11 @@ module _ (chains : List TStdChainStats) (count end : ℕ) (row : List ℕ) (size
       (ap (λ (n : ℕ). take (length row / 6) (take (min count n) chains)) (sym size)
       ∙ ap (λ (r : List TStdChainStats). take (length row / 6) r) (take_cut count chains))
 
-  pub row_ends : (ws : List ℕ) (i : ℕ) → Rowed chains end row ws i → end ≤ i → ws ≡ row_after (take count chains) row
+  pub row_ends : (ws : List ℕ) (i : ℕ) → Written chain_words 6 0 chains row ws i → i ≡ end → ws ≡ row_after (take count chains) row
   unfolding row_after
-  row_ends ws i r h =
-      let last : i ≡ end = omega (arith, r.reached) in
+  row_ends ws i p last =
       let whole : length (flat_map chain_words (take end chains)) ≡ 6 * end = flat_length chain_words 6 chain_size (take end chains) ∙ rw (length-take-le end chains (omega (arith, most, size))) in
-      rw last at r.words.done ∙ rw (← in_use, whole, zero-add (6 * end))
+      rw last at p.done ∙ rw (← in_use, whole, zero-add (6 * end))
 
 -- ---- what the row is
 pub row_none : (row : List ℕ) → row_after [] row ≡ row

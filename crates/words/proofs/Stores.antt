@@ -1,12 +1,13 @@
 -- A loop that stores the words of each element of a list, one element after the other. Assumes nothing.
-use Prim.Native.Nat.{ℕ, suc, ◌+◌, ◌*◌, ◌≤◌, ◌<◌}
+use Prim.Native.Nat.{ℕ, ◌+◌, ◌*◌, ◌≤◌, ◌<◌}
 use mathlib.Core.Path.{◌≡◌, refl, sym, ap, ◌∙◌}
 use mathlib.Core.List.{List, [], ◌∷◌, ◌++◌, flat_map, append-nil, append_assoc}
+use borrow.Rule.Slice.PartMut.{put_mid}
 use native.Mathlib.Nat.{add-zero, mul-zero, mul-suc, add_assoc}
 use native.Mathlib.Omega.{arith}
 use native.Mathlib.Numerals.{add-one}
-use lib.ListN.{length, take, drop, get_or, set, length-append, take-append-drop}
-use lib.Seq.{sets, sets-eq, length-sets, length-take-le, take-suc, take_at, drop-append-add, drop-drop}
+use lib.ListN.{length, take, drop, get_or, length-append, length-drop, take-append-drop}
+use lib.Seq.{length-take-le, take-suc, take_at, drop-append-add, drop-drop}
 
 module _ {A : Type 0} (f : A → List ℕ) where
   flat_append : (xs ys : List A) → flat_map f (xs ++ ys) ≡ flat_map f xs ++ flat_map f ys
@@ -57,44 +58,20 @@ module _ {A : Type 0} (f : A → List ℕ) (w base : ℕ) (sized : (a : A) → l
     front_kept : take at ws ≡ front
     front_kept = rw p.done (take_at front (drop at before) at front_length)
 
-    behind : drop (at + w) ws ≡ drop (at + w) before
-    behind =
-        rw p.done
+    pub written_next : (at′ k : ℕ) (v : List ℕ) → at′ ≡ at → k ≡ w → v ≡ f (get_or l i d) → Written f w base l before (put_mid at′ k ws v) (i + 1)
+    written_next at′ k v e n is =
+        let next : base + w * (i + 1) ≡ at + w = rw (add-one i, mul-suc w i) (sym (add_assoc base (w * i) w)) in
+        let behind : drop w (drop at ws) ≡ drop (at + w) before =
+        drop-drop w at ws
+        ∙ rw p.done
         (ap (λ (n : ℕ). drop (n + w) (front ++ drop at before)) (sym front_length)
         ∙ drop-append-add front (drop at before) w
-        ∙ drop-drop w at before)
-
-    pub written_next : Written f w base l before (sets ws at (f (get_or l i d))) (i + 1)
-    written_next =
-        let v = f (get_or l i d) in
-        let fits : at + length v ≤ length ws = omega (arith, sized (get_or l i d), p.size) in
-        let next : base + w * (i + 1) ≡ at + w = rw (add-one i, mul-suc w i) (sym (add_assoc base (w * i) w)) in
+        ∙ drop-drop w at before) in
+        let front_size : length (take at ws) ≡ at = length-take-le at ws (omega (arith, p.size)) in
+        let size : length (f (get_or l i d)) ≡ w = sized (get_or l i d) in
         record {
-          size = length-sets ws at v ∙ p.size;
+          size = rw (e, n, is) (simp (length-append, length-drop) (omega (arith, p.size)));
           done =
-              sets-eq v ws at fits
-              ∙ rw (sized (get_or l i d), front_kept, behind, next, flat_next f l i d h, ← append_assoc (take base before) (flat_map f (take i l)) v);
+              rw (e, n, is, front_kept, behind, next, flat_next f l i d h, ← append_assoc (take base before) (flat_map f (take i l)) (f (get_or l i d)))
+              (sym (append_assoc front (f (get_or l i d)) (drop (at + w) before)));
         }
-
--- ---- stores at the words behind a place
-module _ (l : List ℕ) (at : ℕ) where
-  one : at + 1 ≡ suc at
-  one = omega arith
-
-  two : at + 2 ≡ suc (suc at)
-  two = omega arith
-
-  three : at + 3 ≡ suc (suc (suc at))
-  three = omega arith
-
-  four : at + 4 ≡ suc (suc (suc (suc at)))
-  four = omega arith
-
-  five : at + 5 ≡ suc (suc (suc (suc (suc at))))
-  five = omega arith
-
-  pub sets_five : (a b c d e : ℕ) → set (set (set (set (set l at a) (at + 1) b) (at + 2) c) (at + 3) d) (at + 4) e ≡ sets l at (a ∷ b ∷ c ∷ d ∷ e ∷ [])
-  sets_five a b c d e = rw (one, two, three, four)
-
-  pub sets_six : (a b c d e f : ℕ) → set (set (set (set (set (set l at a) (at + 1) b) (at + 2) c) (at + 3) d) (at + 4) e) (at + 5) f ≡ sets l at (a ∷ b ∷ c ∷ d ∷ e ∷ f ∷ [])
-  sets_six a b c d e f = rw (one, two, three, four, five)

@@ -7,6 +7,7 @@ use native.Mathlib.Omega.{arith}
 use borrow.Author.Tests.{eq-eqb, ne_eqb}
 use Rattle.error.specs.declared.Code.{Code}
 use Rattle.answer.specs.declared.Answer.{Answer}
+use Rattle.words.specs.Bits.{bits_of}
 use Rattle.words.specs.Row.{chains_of, row_after}
 use Rattle.words.specs.Report.{report_after}
 use Rattle.words.specs.Answer.{most_place, answer_word, row_told, report_told, Told}
@@ -17,7 +18,7 @@ module _ (a : Answer) (told : ℕ) (word : told ≡ answer_word a.code) (row ws 
   told_refused h =
       record { word = word; row = rw (ne_eqb a.code.number 0 h); report = rw (ne_eqb a.code.number 0 h) }
 
-  pub told_accepted : a.code.number ≡ 0 → (row₁ ws₁ : List ℕ) → row₁ ≡ row_after (chains_of a.figures) row → ws₁ ≡ report_after a.report ws → Told a told row row₁ ws ws₁
+  pub told_accepted : a.code.number ≡ 0 → (row₁ ws₁ : List ℕ) → row₁ ≡ row_after (chains_of a.figures) row → ws₁ ≡ report_after bits_of a.report ws → Told a told row row₁ ws ws₁
   unfolding row_told report_told
   told_accepted h row₁ ws₁ p q =
       record { word = word; row = rw (eq-eqb a.code.number 0 h) p; report = rw (eq-eqb a.code.number 0 h) q }

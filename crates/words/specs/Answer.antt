@@ -3,6 +3,7 @@
 use Rattle.std.specs.Prelude.{ℕ, ◌+◌, ◌*◌, ◌^◌, min, ◌≡◌, cond, List, eqb}
 use Rattle.error.specs.declared.Code.{Code}
 use Rattle.answer.specs.declared.Answer.{Answer}
+use Rattle.words.specs.Bits.{bits_of}
 use Rattle.words.specs.Row.{chains_of, row_after}
 use Rattle.words.specs.Report.{report_after}
 
@@ -16,7 +17,7 @@ unfoldable pub row_told : Answer → List ℕ → List ℕ
 row_told a row = cond (eqb a.code.number 0) (row_after (chains_of a.figures) row) row
 
 unfoldable pub report_told : Answer → List ℕ → List ℕ
-report_told a ws = cond (eqb a.code.number 0) (report_after a.report ws) ws
+report_told a ws = cond (eqb a.code.number 0) (report_after bits_of a.report ws) ws
 
 -- the word, and row and report before and after
 pub record Told (a : Answer) (told : ℕ) (row₀ row₁ words₀ words₁ : List ℕ) : Type 0 where

@@ -1,24 +1,17 @@
 -- The configuration of a profile's words: PCR PID, stream count, system count, queue depth, clock depth, then 8 slots of six
 -- words for the streams, then 16 system PIDs. What stands in slots past the counts does not enter.
-use Rattle.std.specs.Prelude.{ℕ, zero, suc, ◌+◌, ◌*◌, ◌-◌, Bool, cond, ◌&&◌, List, [], ◌∷◌, ◌++◌, map, length, get_or, replicate, eqb, leb}
+use Rattle.std.specs.Prelude.{ℕ, ◌+◌, ◌*◌, ◌-◌, ◌<◌, ◌≤◌, ◌≡◌, Bool, true, cond, ◌&&◌, List, ◌++◌, map, length, get_or, replicate, eqb, leb, Result, Ok, Err}
+use Rattle.std.specs.List.{list_all, range_with_len}
 use Rattle.error.specs.declared.Refusal.{Refusal}
-use Rattle.error.specs.Code.{code_numbered, code_of}
 use Rattle.profile.specs.declared.model.TStdBranch.{TStdBranch}
 use Rattle.profile.specs.declared.model.TStdBranch.TheVariants.{Main, Video}
 use Rattle.profile.specs.declared.config.TStdStream.{TStdStream}
 use Rattle.profile.specs.declared.config.TStdConfig.{TStdConfig}
 use Rattle.profile.specs.Range.{max_streams, max_system_pids}
-use Rattle.profile.specs.Every.{every}
-use Rattle.profile.specs.Config.{config, unused_stream, default_config}
-use Rattle.words.specs.declared.config_words.ProfileAnswer.{ProfileAnswer}
+use Rattle.profile.specs.Config.{config, unused_stream}
 
 abbrev pub profile_len : ℕ
 profile_len = 69
-
--- 0, 1, .. n - 1
-unfoldable pub up_to : ℕ → List ℕ
-up_to zero = []
-up_to (suc n) = up_to n ++ (n ∷ [])
 
 -- word k of slot i, and the system PID i
 abbrev pub slot_word : List ℕ → ℕ → ℕ → ℕ
@@ -36,10 +29,10 @@ unfoldable pub slot_fits : List ℕ → ℕ → Bool
 slot_fits ws i = pid_fits (slot_word ws i 0) && leb (slot_word ws i 2) 1
 
 unfoldable pub slots_fit : List ℕ → ℕ → Bool
-slots_fit ws n = every (slot_fits ws) (up_to n)
+slots_fit ws n = list_all (slot_fits ws) (range_with_len 0 n)
 
 unfoldable pub system_fits : List ℕ → ℕ → Bool
-system_fits ws m = every (λ (i : ℕ). pid_fits (system_word ws i)) (up_to m)
+system_fits ws m = list_all (λ (i : ℕ). pid_fits (system_word ws i)) (range_with_len 0 m)
 
 unfoldable pub profile_fits : List ℕ → Bool
 profile_fits ws =
@@ -49,6 +42,15 @@ profile_fits ws =
     && pid_fits (get_or ws 0 0)
     && slots_fit ws (get_or ws 1 0)
     && system_fits ws (get_or ws 2 0)
+
+-- what a profile that fits has
+pub record Fits (ws : List ℕ) : Type 0 where
+  pub size : length ws ≡ profile_len
+  pub streams : get_or ws 1 0 ≤ max_streams
+  pub system : get_or ws 2 0 ≤ max_system_pids
+  pub pcr : get_or ws 0 0 < 65536
+  pub slots : slots_fit ws (get_or ws 1 0) ≡ true
+  pub pids : system_fits ws (get_or ws 2 0) ≡ true
 
 -- a main stream has its buffer size, and two words that do not enter
 unfoldable pub branch_of : (kind a b c : ℕ) → TStdBranch
@@ -62,10 +64,10 @@ stream_at ws i =
     }
 
 unfoldable pub slot_streams : List ℕ → ℕ → List TStdStream
-slot_streams ws n = map (stream_at ws) (up_to n) ++ replicate (max_streams - n) unused_stream
+slot_streams ws n = map (stream_at ws) (range_with_len 0 n) ++ replicate (max_streams - n) unused_stream
 
 unfoldable pub slot_pids : List ℕ → ℕ → List ℕ
-slot_pids ws m = map (system_word ws) (up_to m) ++ replicate (max_system_pids - m) 0
+slot_pids ws m = map (system_word ws) (range_with_len 0 m) ++ replicate (max_system_pids - m) 0
 
 unfoldable pub config_at : List ℕ → TStdConfig
 config_at ws =
@@ -78,9 +80,6 @@ config_at ws =
     (get_or ws 3 0)
     (get_or ws 4 0)
 
--- number 0 and the configuration, or number 1 and the default, which says nothing
-unfoldable pub config_of : List ℕ → ProfileAnswer
-config_of ws =
-    cond (profile_fits ws)
-    (record { code = code_numbered 0; config = config_at ws })
-    (record { code = code_of Refusal.OutsideLimits; config = default_config })
+-- the configuration, or the refusal of a profile that does not fit
+unfoldable pub config_of : List ℕ → Result TStdConfig Refusal
+config_of ws = cond (profile_fits ws) (Ok (config_at ws)) (Err Refusal.OutsideLimits)

@@ -9,7 +9,6 @@ use Rattle.report.specs.declared.violation.ViolationFields.{ViolationFields}
 use Rattle.report.specs.declared.ViolationLine.{ViolationLine}
 use Rattle.report.specs.declared.TStdReport.{TStdReport}
 use Rattle.report.specs.Violation.{fields_of}
-use Rattle.words.specs.Bits.{bits_of}
 
 abbrev pub report_len : ℕ
 report_len = 324
@@ -35,5 +34,5 @@ report_words bits r =
     ∷ flat_map (line_words bits) r.violations
 
 -- words of another length stay as they are
-unfoldable pub report_after : TStdReport → List ℕ → List ℕ
-report_after r ws = cond (eqb (length ws) report_len) (report_words bits_of r) ws
+unfoldable pub report_after : (Float → ℕ) → TStdReport → List ℕ → List ℕ
+report_after bits r ws = cond (eqb (length ws) report_len) (report_words bits r) ws

@@ -2,9 +2,9 @@
 ghost use Rattle.std.specs.Prelude.{◌≡◌};
 ghost use Rattle.words.specs.Answer.{answer_word, Told};
 
-use crate::least::least;
 use crate::report_words::write_report;
 use crate::row_words::write_row;
+use crate::seconds::Finite;
 use answer::Answer;
 use error::Code;
 
@@ -15,22 +15,16 @@ pub const MOST_PLACE: u64 = 1099511627775;
 pub fn answer_word(code: Code) -> u64
     ensures { result ≡ answer_word code }
 {
-    let number = code.number as u64;
-    let pid = code.pid as u64;
-    number + 256 * pid + 16777216 * least(code.place, MOST_PLACE)
+    u64::from(code.number) + 256 * u64::from(code.pid) + 16777216 * code.place.min(MOST_PLACE)
 }
 
 // Ruled out: a row or report changed by a refusal; the report of an accepted recording left as it was.
 pub fn write_answer(answer: Answer, row: &mut [u64], report: &mut [u64]) -> u64
     ensures { Told answer result row.old row.new report.old report.new }
 {
-    let code = answer.code;
-    if code.number != 0 {
-        return answer_word(code);
+    if answer.code.number == 0 {
+        write_row(answer.figures, row);
+        write_report::<Finite>(answer.report, report);
     }
-    let figures = answer.figures;
-    write_row(figures, row);
-    let told = answer.report;
-    write_report(told, report);
-    answer_word(code)
+    answer_word(answer.code)
 }

@@ -3,13 +3,13 @@
 #![tactic(auto)]
 
 pub mod answer_words;
-mod bits;
 pub mod config_words;
-mod least;
 pub mod report_words;
 pub mod row_words;
+pub mod seconds;
 
 pub use answer_words::{answer_word, write_answer};
-pub use config_words::{PROFILE_WORDS, ProfileAnswer, profile_of};
+pub use config_words::{PROFILE_WORDS, profile_of};
 pub use report_words::{REPORT_WORDS, write_report};
 pub use row_words::{ROW_WORDS, write_row};
+pub use seconds::{Finite, SecondsWord};

@@ -1,10 +1,8 @@
 // The report in 324 words: events, PCR samples, bits of the modelled seconds and lines, then five for each of 64 lines.
-ghost use Rattle.std.specs.Prelude.{◌≡◌, ◌+◌, ◌≤◌, length};
-ghost use Rattle.std.proofs.lemmas.List.Edits.{sets};
-ghost use Rattle.words.specs.Bits.{bits_of};
+ghost use Rattle.std.specs.Prelude.{◌≡◌};
 ghost use Rattle.words.specs.Report.{figure_word, line_words, report_after};
 
-use crate::bits::bits_of;
+use crate::seconds::SecondsWord;
 use report::{Figure, TStdReport, ViolationLine};
 
 pub const REPORT_WORDS: usize = 324;
@@ -14,46 +12,44 @@ const HEAD_WORDS: usize = 4;
 
 const LINE_WORDS: usize = 5;
 
-fn figure_word(figure: Figure) -> u64
-    ensures { result ≡ figure_word bits_of figure }
+#[tactic(auto, unfolding(crate::specs::Report::figure_word))]
+fn figure_word<S: SecondsWord>(figure: Figure) -> u64
+    ensures { result ≡ figure_word S.told figure }
 {
     match figure {
         Figure::Bytes(n) => n,
-        Figure::Seconds(s) => bits_of(s),
+        Figure::Seconds(s) => S::word(s),
     }
 }
 
-fn write_line(line: ViolationLine, words: &mut [u64], at: usize)
-    requires { at + 5 ≤ length words.old }
-    ensures { words.new ≡ sets words.old at (line_words bits_of line) }
+#[tactic(auto, unfolding(crate::specs::Report::line_words, crate::specs::Report::fields_words))]
+fn line_words<S: SecondsWord>(line: ViolationLine) -> [u64; LINE_WORDS]
+    ensures { result ≡ line_words S.told line }
 {
-    let violation = line.violation;
-    let fields = violation.fields();
-    let figure = fields.figure;
-    words[at] = fields.kind as u64;
-    words[at + 1] = fields.pid as u64;
-    words[at + 2] = fields.limit as u64;
-    words[at + 3] = bits_of(fields.decode_time);
-    words[at + 4] = figure_word(figure);
+    let fields = line.violation.fields();
+    [
+        u64::from(fields.kind),
+        u64::from(fields.pid),
+        fields.limit as u64,
+        S::word(fields.decode_time),
+        figure_word::<S>(fields.figure),
+    ]
 }
 
 // Nothing changes where the length is another. Ruled out: the lines in use alone, with words behind them left as they
 // were; a figure in seconds told as a whole number.
-pub fn write_report(report: TStdReport, words: &mut [u64])
-    ensures { words.new ≡ report_after report words.old }
+pub fn write_report<S: SecondsWord>(report: TStdReport, words: &mut [u64])
+    ensures { words.new ≡ report_after S.told report words.old }
 {
     if words.len() != REPORT_WORDS {
         return;
     }
     words[0] = report.violation_events;
     words[1] = report.pcr_samples;
-    words[2] = bits_of(report.modelled_seconds);
+    words[2] = S::word(report.modelled_seconds);
     words[3] = report.violation_count as u64;
-    let lines = report.violations;
-    let mut i = 0;
-    while i < 64 {
-        let line = lines[i];
-        write_line(line, words, HEAD_WORDS + LINE_WORDS * i);
-        i += 1;
+    for (i, line) in report.violations.iter().enumerate() {
+        let at = HEAD_WORDS + LINE_WORDS * i;
+        words[at..at + LINE_WORDS].copy_from_slice(&line_words::<S>(*line));
     }
 }

@@ -3,4 +3,4 @@ use Rattle.words.proofs.Profile.{slot_fits_lem}
 use Rattle.words.proofs.config_words.slot_fits.Goals as goal
 
 pub returns : goal.returns
-returns c = slot_fits_lem _ _
+returns c = rw c.pid_fits.ensures (slot_fits_lem _ _)

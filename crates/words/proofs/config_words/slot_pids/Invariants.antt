@@ -1,11 +1,7 @@
 -- `slot_pids` meets its contract. The invariant: the first i slots hold their PIDs, the others 0. Assumes nothing.
-use Prim.Native.Nat.{◌-◌}
 use Rattle.words.specs.Config.{system_word}
 use Rattle.words.proofs.UpTo.{Filled}
 use Rattle.words.proofs.config_words.slot_pids.Given as goal
 
 abbrev pub invariant-loop-i : goal.invariant-loop-i
-invariant-loop-i l = Filled (system_word l.words) 0 16 l.count l.pids l.i
-
-abbrev pub decreases-loop-i : goal.decreases-loop-i
-decreases-loop-i l = l.count - l.i
+invariant-loop-i l = Filled (system_word l.words) 0 16 l.pids l.i

@@ -1,40 +1,25 @@
--- `write_report` meets its contract. The invariant: the first i lines are written (`Lined`). Assumes nothing.
-use borrow.Author.Rules.{rules}
-use mathlib.Core.Path.{◌∙◌}
+-- `write_report` meets its contract. The invariant: the first lines are written (`Written`). Assumes nothing.
 use native.Mathlib.Omega.{arith}
-use lib.ListN.{length-set}
+use mathlib.Core.Path.{◌∙◌}
+use borrow.Author.Rules.{rules}
 use Rattle.profile.proofs.Copies.{length_of_map}
-use Rattle.words.specs.Bits.{bits_of}
-use Rattle.words.proofs.Report.{other_length, that_length, lines_start, line_next, report_ends}
+use Rattle.words.specs.Report.{line_words}
+use Rattle.words.proofs.Stores.{written_none}
+use Rattle.words.proofs.Report.{line_size, other_length, that_length, line_next, report_ends}
 use Rattle.words.proofs.report_words.write_report.Goals as goal
 
 pub returns-then-words-ne-REPORT_WORDS : goal.returns-then-words-ne-REPORT_WORDS
-returns-then-words-ne-REPORT_WORDS c = other_length _ _ c.if-words-ne-REPORT_WORDS.true
-
-pub bounds-words-1 : goal.bounds-words-1
-bounds-words-1 c = simp length-set (omega arith)
-
-pub bounds-words-2 : goal.bounds-words-2
-bounds-words-2 c = simp length-set (omega arith)
-
-pub bounds-words-3 : goal.bounds-words-3
-bounds-words-3 c = simp length-set (omega arith)
+returns-then-words-ne-REPORT_WORDS g c = other_length _ _ _ c.if-words-ne-REPORT_WORDS.true
 
 pub loop-i-init : goal.loop-i-init
-loop-i-init c = lines_start _ _ _ (search (length_of_map, rules)) (simp length-set c.if-words-ne-REPORT_WORDS.false)
-
-pub write_line-requires : goal.write_line-requires
-write_line-requires c = let p = c.loop-i.invariant in omega (arith, p.words.size)
+loop-i-init g c = written_none (line_words g.S.SecondsWord.told) 5 4 (line_size _) _ _
 
 pub loop-i-preserved : goal.loop-i-preserved
-loop-i-preserved c = rw c.write_line.ensures (line_next _ _ _ _ _ _ c.loop-i.invariant (search rules))
-
-pub shape_of-words : goal.shape_of-words
-shape_of-words c = c.loop-i.invariant.words.size ∙ simp length-set
+loop-i-preserved g c =
+    line_next g.S.SecondsWord.told c.args.report c.args.words.now c.if-words-ne-REPORT_WORDS.false _ c.word.ensures _ _ c.loop-i.i _ _ _ (omega arith) (search (length_of_map, rules)) (omega arith) (omega arith) (c.copy_from_slice.ensures.after ∙ c.line_words.ensures) c.loop-i.invariant
 
 pub returns : goal.returns
-returns c =
-    let a = c.args in
+returns g c =
     let size = c.if-words-ne-REPORT_WORDS.false in
-    report_ends bits_of a.report a.words.now size _ _ (rw c.bits_of.ensures at c.loop-i.invariant) (search rules)
-    ∙ that_length a.report a.words.now size
+    report_ends g.S.SecondsWord.told c.args.report c.args.words.now size _ c.word.ensures _ c.loop-i.i (search (length_of_map, rules)) c.loop-i.invariant (omega arith)
+    ∙ that_length _ c.args.report c.args.words.now size

@@ -1,11 +1,7 @@
--- `write_report` meets its contract. The invariant: the first i lines are written (`Lined`). Assumes nothing.
-use Prim.Native.Nat.{◌-◌}
-use Rattle.words.specs.Bits.{bits_of}
-use Rattle.words.proofs.Report.{Lined}
+-- `write_report` meets its contract. The invariant: the first lines are written (`Written`). Assumes nothing.
+use Rattle.words.specs.Report.{line_words}
+use Rattle.words.proofs.Stores.{Written}
 use Rattle.words.proofs.report_words.write_report.Given as goal
 
 abbrev pub invariant-loop-i : goal.invariant-loop-i
-invariant-loop-i l = Lined bits_of l.lines l.initial.words l.words l.i
-
-abbrev pub decreases-loop-i : goal.decreases-loop-i
-decreases-loop-i l = 64 - l.i
+invariant-loop-i g l = Written (line_words g.S.SecondsWord.told) 5 4 l.line-items l.initial.words l.words l.i

@@ -1,0 +1,26 @@
+// The bits of a figure in seconds. Those of a not-a-number the language leaves open, so each teller says which it gives.
+ghost use Rattle.std.specs.Prelude.{◌≡◌, ℕ, Float};
+ghost use Rattle.words.specs.Bits.{bits_of};
+
+pub trait SecondsWord {
+    ghost told: { Float → ℕ };
+
+    fn word(seconds: f64) -> u64
+        ensures { result ≡ told seconds };
+}
+
+// 0 for a not-a-number, which no figure of a replay is.
+pub struct Finite;
+
+impl SecondsWord for Finite {
+    ghost told = { bits_of };
+
+    // Ruled out: the bits of a not-a-number; those of 0 for -0.
+    #[tactic(auto, unfolding(crate::specs::Bits::bits_of))]
+    fn word(seconds: f64) -> u64 {
+        if seconds.is_nan() {
+            return 0;
+        }
+        seconds.to_bits()
+    }
+}
