@@ -2,7 +2,7 @@
 // The Rust's `PesScanner` by value; a payload gives at most three runs, and no loop goes over its bytes.
 #![tactic(auto)]
 
-ghost use Rattle.std.specs.Prelude.{◌≡◌, Some, false, [], ◌++◌, ◌+◌, ◌-◌, ◌<◌, ◌≤◌, min};
+ghost use Rattle.std.specs.Prelude.{◌≡◌, false, [], ◌++◌, ◌+◌, ◌<◌, ◌≤◌};
 ghost use Rattle.scanner.specs.Unit.{stamp_bytes, stamp_end_by, content_begin_by, cut, unit};
 ghost use Rattle.syntax.specs.TimeStamp.{timestamp};
 ghost use Rattle.scanner.specs.Joined.{byte_at, stamp_at, listed, decode_ts_in, stamp_here, cuts_by, kept_from, begun_at};
@@ -65,6 +65,7 @@ pub struct Fed {
 const HEADER_LIMIT: u16 = 264;
 
 // Byte i of the unit whose first n bytes came before, and whose next are the payload; 0 where it has not come.
+#[tactic(auto, unfolding(crate::specs::Joined::byte_at))]
 fn byte_at(kept: u8, n: usize, i: usize, payload: &[u8]) -> u8
     ensures { result ≡ byte_at kept n i payload.now }
 {
@@ -75,6 +76,7 @@ fn byte_at(kept: u8, n: usize, i: usize, payload: &[u8]) -> u8
     if j < payload.len() { payload[j] } else { 0 }
 }
 
+#[tactic(auto, unfolding(crate::specs::Joined::stamp_at))]
 fn stamp_at(kept: StampBytes, n: usize, i: usize, payload: &[u8]) -> StampBytes
     requires { i < 100 }
     ensures { result ≡ stamp_at kept n i payload.now }
@@ -92,144 +94,101 @@ fn stamp_at(kept: StampBytes, n: usize, i: usize, payload: &[u8]) -> StampBytes
 fn joined(h: PesHeader, n: usize, payload: &[u8]) -> PesHeader
     ensures { result ≡ header_of (unit_with n h ++ payload.now) }
 {
-    let pts = h.pts;
-    let dts = h.dts;
-    let stream_id = byte_at(h.stream_id, n, 3, payload);
-    let flags = byte_at(h.flags, n, 7, payload);
-    let header_data_length = byte_at(h.header_data_length, n, 8, payload);
-    let p = stamp_at(pts, n, 9, payload);
-    let d = stamp_at(dts, n, 14, payload);
     PesHeader {
-        stream_id,
-        flags,
-        header_data_length,
-        pts: p,
-        dts: d,
+        stream_id: byte_at(h.stream_id, n, 3, payload),
+        flags: byte_at(h.flags, n, 7, payload),
+        header_data_length: byte_at(h.header_data_length, n, 8, payload),
+        pts: stamp_at(h.pts, n, 9, payload),
+        dts: stamp_at(h.dts, n, 14, payload),
     }
 }
 
-fn size(x: u8) -> usize
-    ensures { result ≡ x }
-{
-    x as usize
-}
-
-fn lesser(a: usize, b: usize) -> usize
-    ensures { result ≡ min a b }
-{
-    if a <= b { a } else { b }
-}
-
-fn beyond(a: usize, b: usize) -> usize
-    ensures { result ≡ a - b }
-{
-    if a <= b { 0 } else { a - b }
-}
-
+#[tactic(auto, unfolding(crate::specs::Unit::stamp_bytes))]
 fn stamp_bytes(flags: u8) -> usize
     ensures { result ≡ stamp_bytes flags }
 {
-    if flags == 2 {
-        return 5;
+    match flags {
+        2 => 5,
+        3 => 10,
+        _ => 0,
     }
-    if flags == 3 { 10 } else { 0 }
 }
 
+#[tactic(auto, unfolding(crate::specs::Unit::stamp_end_by))]
 fn stamp_end(optional: bool, flags: u8, length: u8) -> usize
     ensures { result ≡ stamp_end_by optional flags length }
 {
     if optional {
-        9 + lesser(size(length), stamp_bytes(flags))
+        9 + usize::from(length).min(stamp_bytes(flags))
     } else {
         6
     }
 }
 
+#[tactic(auto, unfolding(crate::specs::Unit::content_begin_by))]
 fn content_begin(optional: bool, length: u8) -> usize
     ensures { result ≡ content_begin_by optional length }
 {
-    if optional { 9 + size(length) } else { 6 }
+    if optional { 9 + usize::from(length) } else { 6 }
 }
 
-fn stamp(b: StampBytes) -> Option<u64>
-    ensures { result ≡ Some (timestamp (listed b)) }
+fn stamp(b: StampBytes) -> u64
+    ensures { result ≡ timestamp (listed b) }
 {
-    Some(pes::read_ts33([b.b0, b.b1, b.b2, b.b3, b.b4]))
+    pes::read_ts33([b.b0, b.b1, b.b2, b.b3, b.b4])
 }
 
+#[tactic(auto, unfolding(crate::specs::Unit::decode_ts_by, crate::specs::Joined::decode_ts_in))]
 fn decode_ts(optional: bool, flags: u8, h: PesHeader) -> Option<u64>
     ensures { result ≡ decode_ts_in optional flags h }
 {
-    if optional {
-        if flags == 2 {
-            if 5 <= h.header_data_length {
-                let pts = h.pts;
-                return stamp(pts);
-            }
-            return None;
-        }
-        if flags == 3 {
-            if 10 <= h.header_data_length {
-                let dts = h.dts;
-                return stamp(dts);
-            }
-            return None;
-        }
+    if !optional {
         return None;
     }
-    None
+    match flags {
+        2 if 5 <= h.header_data_length => Some(stamp(h.pts)),
+        3 if 10 <= h.header_data_length => Some(stamp(h.dts)),
+        _ => None,
+    }
 }
 
 // The stamp, if the run of so many bytes behind the first n reaches s.
+#[tactic(auto, unfolding(crate::specs::Joined::stamp_here))]
 fn stamp_here(n: usize, size: usize, s: usize, stamp: Option<u64>) -> Option<u64>
     ensures { result ≡ stamp_here n size s stamp }
 {
-    if n < s {
-        if s - n <= size {
-            return stamp;
-        }
-        return None;
-    }
-    None
+    if n < s && s - n <= size { stamp } else { None }
 }
 
+#[tactic(auto, unfolding(crate::specs::Unit::cut, crate::specs::Joined::stamp_here))]
 fn cut_runs(n: usize, size: usize, s: usize, t: usize, stamp: Option<u64>) -> Runs
     ensures { result ≡ cut n size s t stamp }
 {
-    let head = lesser(size, beyond(s, n));
-    let header = lesser(size, beyond(t, n));
-    let rest = beyond(header, head);
-    let body = beyond(size, header);
-    let decode_ts = stamp_here(n, size, s, stamp);
+    let head = size.min(s.saturating_sub(n));
+    let header = size.min(t.saturating_sub(n));
     Runs {
         head,
-        decode_ts,
-        rest,
-        body,
+        decode_ts: stamp_here(n, size, s, stamp),
+        rest: header.saturating_sub(head),
+        body: size - header,
     }
 }
 
 // The two cuts and the stamp, from the header's bytes.
+#[tactic(auto, unfolding(crate::specs::Joined::cuts_by))]
 fn cuts_of(h: PesHeader) -> UnitCuts
     ensures { result ≡ cuts_by h }
 {
     let optional = pes::has_optional_pes_header(h.stream_id);
     let flags = h.flags / 64;
-    let stamp = decode_ts(optional, flags, h);
     UnitCuts {
         stamp_end: stamp_end(optional, flags, h.header_data_length),
         content_begin: content_begin(optional, h.header_data_length),
-        stamp,
+        stamp: decode_ts(optional, flags, h),
     }
 }
 
-fn count16(n: usize) -> u16
-    requires { n < header_limit }
-    ensures { result ≡ n }
-{
-    n as u16
-}
-
+#[tactic(auto, unfolding(crate::specs::State::header_of, crate::specs::State::stamp_bytes_at))]
 fn no_header() -> PesHeader
     ensures { result ≡ header_of [] }
 {
@@ -249,6 +208,7 @@ fn no_header() -> PesHeader
     }
 }
 
+#[tactic(auto, unfolding(crate::specs::State::in_content))]
 fn in_content() -> PesScanner
     ensures { result ≡ in_content }
 {
@@ -260,18 +220,16 @@ fn in_content() -> PesScanner
 }
 
 // What is kept behind a payload of so many bytes, whose unit had n before and has its content from t on.
+#[tactic(auto, unfolding(crate::specs::Joined::kept_from))]
 fn kept_behind(n: usize, size: usize, t: usize, h: PesHeader) -> PesScanner
     requires { t ≤ header_limit }
     ensures { result ≡ kept_from (n + size) t h }
 {
-    if t <= n {
-        return in_content();
-    }
-    if t - n <= size {
+    if t.saturating_sub(n) <= size {
         return in_content();
     }
     PesScanner {
-        count: count16(n + size),
+        count: (n + size) as u16,
         started: true,
         header: h,
     }
@@ -282,31 +240,35 @@ fn take_in(s: PesScanner, payload: &[u8]) -> Fed
     requires { s.count < header_limit }
     ensures { result ≡ fed_of (unit (unit_with s.count s.header)) false payload.now }
 {
-    let n = s.count as usize;
-    let before = s.header;
-    let h = joined(before, n, payload);
-    let c = cuts_of(h);
-    let stamp = c.stamp;
-    let runs = cut_runs(n, payload.len(), c.stamp_end, c.content_begin, stamp);
-    let scanner = kept_behind(n, payload.len(), c.content_begin, h);
-    Fed { runs, scanner }
+    let n = usize::from(s.count);
+    let h = joined(s.header, n, payload);
+    let cuts = cuts_of(h);
+    Fed {
+        runs: cut_runs(
+            n,
+            payload.len(),
+            cuts.stamp_end,
+            cuts.content_begin,
+            cuts.stamp,
+        ),
+        scanner: kept_behind(n, payload.len(), cuts.content_begin, h),
+    }
 }
 
 // The state before a payload of so many bytes: that of an empty unit, where the payload starts one.
+#[tactic(auto, unfolding(crate::specs::Joined::begun_at))]
 fn begun(s: PesScanner, start: bool, size: usize) -> PesScanner
     ensures { result ≡ begun_at s start size }
 {
-    if start {
-        if 0 < size {
-            return PesScanner {
-                count: 0,
-                started: true,
-                header: no_header(),
-            };
+    if start && 0 < size {
+        PesScanner {
+            count: 0,
+            started: true,
+            header: no_header(),
         }
-        return s;
+    } else {
+        s
     }
-    s
 }
 
 // A payload of content alone.
@@ -324,27 +286,24 @@ fn only(body: usize) -> Runs
 impl PesScanner {
     // A payload that starts no unit may have header bytes: a unit is open, and its content has not begun.
     // Ruled out: true before the first unit; false while header bytes may come.
+    #[tactic(auto, unfolding(crate::specs::State::in_header))]
     pub fn in_header(self) -> bool
         ensures { result ≡ in_header self }
     {
-        if self.started {
-            return self.count < HEADER_LIMIT;
-        }
-        false
+        self.started && self.count < HEADER_LIMIT
     }
 
     // The runs of a payload of so many bytes that starts no unit and has no header bytes: content, or none before the first unit.
     // Ruled out: runs before the first unit; fewer bytes of content than the payload has.
+    #[tactic(auto, unfolding(crate::specs::State::unfed_runs))]
     pub fn unfed(self, size: usize) -> Runs
         ensures { result ≡ unfed_runs self size }
     {
-        if self.started {
-            return only(size);
-        }
-        only(0)
+        only(if self.started { size } else { 0 })
     }
 
     // Before the first unit. Ruled out: a state that a payload without the start bit would get runs from; a unit open already.
+    #[tactic(auto, unfolding(crate::specs::State::idle))]
     pub fn new() -> Self
         ensures { result ≡ idle }
     {
@@ -362,18 +321,18 @@ impl PesScanner {
         ensures { result ≡ fed_of (open_of self) payload_unit_start payload.now }
     {
         let s = begun(self, payload_unit_start, payload.len());
-        if s.started {
-            if s.count < HEADER_LIMIT {
-                return take_in(s, payload);
-            }
+        if !s.started {
+            return Fed {
+                runs: only(0),
+                scanner: PesScanner::new(),
+            };
+        }
+        if HEADER_LIMIT <= s.count {
             return Fed {
                 runs: only(payload.len()),
                 scanner: in_content(),
             };
         }
-        Fed {
-            runs: only(0),
-            scanner: PesScanner::new(),
-        }
+        take_in(s, payload)
     }
 }
