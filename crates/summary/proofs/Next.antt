@@ -1,121 +1,111 @@
--- The search for the slot whose first event comes next: the slots are passed from the last to the first.
+-- The search for the slot whose first event comes next: of the slots below k the best is kept.
 use mathlib.Core.Path.{◌≡◌, refl, sym, ap, ◌∙◌}
 use mathlib.Core.Bool.{Bool, true, false, ◌&&◌}
 use mathlib.Core.List.{List}
-use Prim.Native.Nat.{ℕ, ◌-◌, ◌≤◌, ◌<◌}
+use Prim.Native.Nat.{ℕ, ◌+◌, ◌≤◌, ◌<◌}
 use native.Mathlib.Omega.{arith}
 use lib.ListN.{length, get_or}
 use lib.Dec.{ltb, leb, eqb}
-use borrow.Author.Tests.{ltb-true, leb-true, leb-false, eqb-true, eqb-false, lt-ltb}
+use borrow.Author.Tests.{ltb-true, ltb-false, leb-true, leb-false, eqb-true, eqb-false, lt-ltb}
+use Rattle.std.specs.Prelude.{Option, Some, None}
 use Rattle.report.proofs.Bools.{true_false, and_left, and_right, both}
 use Rattle.summary.specs.Next.{NextSlot}
 
--- slot `best`, with the number `least`, is the lowest of those behind k with that number
-pub record Best (firsts : List ℕ) (after k best least : ℕ) : Type 0 where
-  pub passed : k < best
-  pub at : get_or firsts best 0 ≡ least
-  pub behind : after < least
-  pub lowest : (j : ℕ) → k < j → j < best → get_or firsts j 0 ≡ least → ⊥
+-- slot j may come next
+pub record Candidate (firsts : List ℕ) (after j : ℕ) : Type 0 where
+  pub low : 0 < j
+  pub behind : after < get_or firsts j 0
+  pub counted : get_or firsts j 0 ≤ get_or firsts 0 0
 
--- the slots behind k are passed; best is 64 as long as none of them comes behind `after`
-pub record Scanned (firsts : List ℕ) (after k best least : ℕ) : Type 0 where
-  pub size : length firsts ≡ 64
-  pub low : k < 64
-  pub counted : least ≤ get_or firsts 0 0
-  pub best_of : best < 64 → Best firsts after k best least
-  pub none_yet : 64 ≤ best → least ≡ get_or firsts 0 0
-  pub all : (j : ℕ) → k < j → j < 64 → after < get_or firsts j 0 → get_or firsts j 0 ≤ get_or firsts 0 0 → (best < 64) × (least ≤ get_or firsts j 0)
+-- of the candidates below k, b is the lowest with the least number
+pub record Best (firsts : List ℕ) (after k b : ℕ) : Type 0 where
+  pub passed : b < k
+  pub candidate : Candidate firsts after b
+  pub lowest : (j : ℕ) → 0 < j → j < b → get_or firsts j 0 ≡ get_or firsts b 0 → ⊥
+  pub least : (j : ℕ) → j < k → Candidate firsts after j → get_or firsts b 0 ≤ get_or firsts j 0
+
+abbrev pub Scanned : List ℕ → ℕ → ℕ → Option ℕ → Type 0
+Scanned firsts after k None = (j : ℕ) → j < k → Candidate firsts after j → ⊥
+Scanned firsts after k (Some b) = Best firsts after k b
+
+-- the number of slot k is before that of the best so far, or counted where there is none
+abbrev pub sooner : List ℕ → Option ℕ → ℕ → Bool
+sooner firsts None first = leb first (get_or firsts 0 0)
+sooner firsts (Some b) first = ltb first (get_or firsts b 0)
 
 module _ (firsts : List ℕ) (after : ℕ) where
-  pub scan_starts : length firsts ≡ 64 → Scanned firsts after 63 64 (get_or firsts 0 0)
-  scan_starts h =
-      record {
-        size = h;
-        low = omega arith;
-        counted = omega arith;
-        best_of = λ w. absurd (omega arith);
-        none_yet = λ w. refl;
-        all = λ j l w p q. absurd (omega arith);
-      }
+  pub scan_starts : Scanned firsts after 1 None
+  scan_starts j h c = omega (arith, c.low)
 
-  module _ (k best least : ℕ) (s : Scanned firsts after k best least) (more : 0 < k) where
+  module _ (k : ℕ) (low : 0 < k) where
     abbrev f : ℕ
     f = get_or firsts k 0
 
-    -- slot j is k or lies behind it
-    at_or_behind : (j : ℕ) {P : Type 0} → k - 1 < j → (j ≡ k → P) → (k < j → P) → P
-    at_or_behind j {P} h p q = go (eqb j k) refl
+    -- slot j is k or lies below it
+    at_or_below : (j : ℕ) {P : Type 0} → j < k + 1 → (j ≡ k → P) → (j < k → P) → P
+    at_or_below j {P} h p q = go (eqb j k) refl
       where
         go : (b : Bool) → eqb j k ≡ b → P
         go true e = p (eqb-true j k e)
         go false e = let ne : j ≡ k → ⊥ = eqb-false j k e in q (omega arith)
 
-    pub scan_better : (ltb after f && leb f least) ≡ true → Scanned firsts after (k - 1) k f
-    scan_better t =
-        let p : after < f = ltb-true after f (and_left (ltb after f) (leb f least) t) in
-        let q : f ≤ least = leb-true f least (and_right (ltb after f) (leb f least) t) in
+    at_k : (j : ℕ) → j ≡ k → get_or firsts j 0 ≡ f
+    at_k j e = ap (λ (i : ℕ). get_or firsts i 0) e
+
+    pub scan_better : (best : Option ℕ) → Scanned firsts after k best → (ltb after f && sooner firsts best f) ≡ true → Scanned firsts after (k + 1) (Some k)
+    scan_better None s t =
+        let p = ltb-true after f (and_left (ltb after f) _ t) in
+        let q = leb-true f (get_or firsts 0 0) (and_right (ltb after f) _ t) in
         record {
-          size = s.size;
-          low = omega (arith, s.low);
-          counted = omega (arith, s.counted);
-          best_of = λ w. record { passed = omega arith; at = refl; behind = p; lowest = λ j l h e. omega arith };
-          none_yet = λ w. absurd (omega (arith, s.low));
-          all = λ j l h a b.
-              at_or_behind j l (λ e. (s.low, omega (arith, ap (λ (i : ℕ). get_or firsts i 0) e)))
-              (λ g. (s.low, omega (arith, (s.all j g h a b).1)));
+          passed = omega arith;
+          candidate = record { low = low; behind = p; counted = q };
+          lowest = λ j l h e. s j h (record { low = l; behind = omega arith; counted = omega arith });
+          least = λ j h c. at_or_below j h (λ e. omega (arith, at_k j e)) (λ g. absurd (s j g c));
+        }
+    scan_better (Some b) s t =
+        let p = ltb-true after f (and_left (ltb after f) _ t) in
+        let q = ltb-true f (get_or firsts b 0) (and_right (ltb after f) _ t) in
+        let counted = s.candidate.counted in
+        record {
+          passed = omega arith;
+          candidate = record { low = low; behind = p; counted = omega arith };
+          lowest = λ j l h e. let w = s.least j h (record { low = l; behind = omega arith; counted = omega arith }) in omega arith;
+          least = λ j h c. at_or_below j h (λ e. omega (arith, at_k j e)) (λ g. let w = s.least j g c in omega arith);
         }
 
-    -- the test fails, so a slot behind `after` lies above the least
-    above : (ltb after f && leb f least) ≡ false → after < f → least < f
-    above t p = go (leb f least) refl
+    -- the test fails
+    fails : (best : Option ℕ) → (ltb after f && sooner firsts best f) ≡ false → after < f → sooner firsts best f ≡ false
+    fails best t p = go (sooner firsts best f) refl
       where
-        go : (b : Bool) → leb f least ≡ b → least < f
-        go true e = true_false (sym (both (ltb after f) (leb f least) (lt-ltb after f p) e) ∙ t)
-        go false e = leb-false f least e
+        go : (b : Bool) → sooner firsts best f ≡ b → sooner firsts best f ≡ false
+        go true e = true_false (sym (both (ltb after f) _ (lt-ltb after f p) e) ∙ t)
+        go false e = e
 
-    pub scan_other : (ltb after f && leb f least) ≡ false → Scanned firsts after (k - 1) best least
-    scan_other t =
+    pub scan_other : (best : Option ℕ) → Scanned firsts after k best → (ltb after f && sooner firsts best f) ≡ false → Scanned firsts after (k + 1) best
+    scan_other None s t = λ j h c.
+        at_or_below j h
+        (λ e. let g = at_k j e in let b = c.behind in let d = c.counted in let w = leb-false f (get_or firsts 0 0) (fails None t (omega arith)) in omega arith)
+        (λ g. s j g c)
+    scan_other (Some b) s t =
+        let passed = s.passed in
         record {
-          size = s.size;
-          low = omega (arith, s.low);
-          counted = s.counted;
-          best_of = λ w.
-              let b = s.best_of w in
-              record {
-                passed = omega (arith, b.passed);
-                at = b.at;
-                behind = b.behind;
-                lowest = λ j l h e.
-                    at_or_behind j l (λ g. let i : f ≡ least = sym (ap (λ (i : ℕ). get_or firsts i 0) g) ∙ e in omega (arith, above t (omega (arith, b.behind)))) (λ g. b.lowest j g h e);
-              };
-          none_yet = s.none_yet;
-          all = λ j l h a b.
-              at_or_behind j l
-              (λ e. let i : get_or firsts j 0 ≡ f = ap (λ (i : ℕ). get_or firsts i 0) e in
-              let w : least < f = above t (omega arith) in
-              (low_best (λ n. let z = s.none_yet n in omega arith), omega arith))
-              (λ g. s.all j g h a b);
+          passed = omega arith;
+          candidate = s.candidate;
+          lowest = s.lowest;
+          least = λ j h c.
+              at_or_below j h
+              (λ e. let g = at_k j e in let a = c.behind in let w = ltb-false f (get_or firsts b 0) (fails (Some b) t (omega arith)) in omega arith)
+              (λ g. s.least j g c);
         }
-      where
-        low_best : (64 ≤ best → ⊥) → best < 64
-        low_best n = omega arith
 
-  pub scan_ends : (k best least : ℕ) → Scanned firsts after k best least → k ≤ 0 → NextSlot firsts after best
-  scan_ends k best least s z =
+  pub scan_ends : (k : ℕ) (best : Option ℕ) → length firsts ≡ k → Scanned firsts after k best → NextSlot firsts after best
+  scan_ends k None n s = λ j l h i a w e. s i (omega arith) (record { low = a; behind = omega arith; counted = omega arith })
+  scan_ends k (Some b) n s =
+      let passed = s.passed in
+      let c = s.candidate in
       record {
-        next = λ w.
-            let b = s.best_of w in
-            record {
-              slot =
-                  record {
-                    low = omega (arith, b.passed);
-                    high = omega (arith, s.size);
-                    at = refl;
-                    first = λ j l h e. b.lowest j (omega arith) h (e ∙ b.at);
-                  };
-              behind = omega (arith, b.behind, b.at);
-              counted = omega (arith, s.counted, b.at);
-              between = λ n l h j g m e. let r = s.all j (omega arith) (omega (arith, s.size)) (omega arith) (omega (arith, s.counted, b.at)) in omega (arith, r.1, b.at);
-            };
-        none = λ w n l h j g m e. let r = s.all j (omega arith) (omega (arith, s.size)) (omega arith) (omega arith) in omega (arith, r.0);
+        slot = record { low = c.low; high = omega arith; at = refl; first = s.lowest };
+        behind = c.behind;
+        counted = c.counted;
+        between = λ j l h i a w e. let m = s.least i (omega arith) (record { low = a; behind = omega arith; counted = let d = c.counted in omega arith }) in omega arith;
       }

@@ -1,5 +1,5 @@
 -- Which slot's first event comes next behind an event.
-use Rattle.std.specs.Prelude.{ℕ, ◌≤◌, ◌<◌, ◌≡◌, List, length, get_or}
+use Rattle.std.specs.Prelude.{ℕ, ◌≤◌, ◌<◌, ◌≡◌, List, length, get_or, Option, Some, None}
 
 -- slot k is the first with the number n
 pub record FirstSlot (firsts : List ℕ) (n k : ℕ) : Type 0 where
@@ -18,7 +18,7 @@ pub record NextFirst (firsts : List ℕ) (after k : ℕ) : Type 0 where
   pub counted : get_or firsts k 0 ≤ get_or firsts 0 0
   pub between : (j : ℕ) → after < j → j < get_or firsts k 0 → NoSlot firsts j
 
--- slot k comes next, or k is 64 and none up to the count does
-pub record NextSlot (firsts : List ℕ) (after k : ℕ) : Type 0 where
-  pub next : k < 64 → NextFirst firsts after k
-  pub none : 64 ≤ k → (j : ℕ) → after < j → j ≤ get_or firsts 0 0 → NoSlot firsts j
+-- the slot that comes next, or none up to the count does
+abbrev pub NextSlot : List ℕ → ℕ → Option ℕ → Type 0
+NextSlot firsts after None = (j : ℕ) → after < j → j ≤ get_or firsts 0 0 → NoSlot firsts j
+NextSlot firsts after (Some k) = NextFirst firsts after k

@@ -1,9 +1,6 @@
--- `next_slot` meets its contract. The invariant: the slots behind k are passed (`Scanned`). Assumes nothing.
+-- `next_slot` meets its contract. The invariant: the slots below k are passed (`Scanned`). Assumes nothing.
 use Rattle.summary.proofs.Next.{Scanned}
 use Rattle.summary.proofs.next_slot.Given as goal
 
 abbrev pub invariant-loop-k : goal.invariant-loop-k
-invariant-loop-k l = Scanned l.firsts l.after l.k l.best l.least
-
-abbrev pub decreases-loop-k : goal.decreases-loop-k
-decreases-loop-k l = l.k
+invariant-loop-k l = Scanned l.firsts l.after l.k l.best

@@ -1,4 +1,4 @@
--- `report_of` meets its contract. The invariant: the slots up to event `after` are recorded, and slot k comes next (`Summed`).
+-- `report_of` meets its contract. The invariant: the slots up to event `after` are recorded (`Summed`).
 -- The measure: the events left up to the count. Assumes nothing.
 use Prim.Native.Nat.{◌-◌}
 use lib.ListN.{get_or}
@@ -6,7 +6,7 @@ use Rattle.summary.proofs.Summed.{Summed}
 use Rattle.summary.proofs.report_of.Given as goal
 
 abbrev pub invariant-loop-k : goal.invariant-loop-k
-invariant-loop-k l = Summed l.config l.firsts l.figures l.report l.after l.k
+invariant-loop-k l = Summed l.config l.firsts l.figures l.report l.after
 
 abbrev pub decreases-loop-k : goal.decreases-loop-k
 decreases-loop-k l = get_or l.firsts 0 0 - l.after
