@@ -1,5 +1,5 @@
 -- A chain of the definition as pass 2 holds it: the new one, a step of it, what a change elsewhere in the work leaves, and its figures.
-use Rattle.std.proofs.Common.{◌≡◌, ℕ, suc, ◌+◌, ◌*◌, ◌^◌, ◌<◌, ◌≤◌, Bool, true, false, ◌⊎◌, List, length, sym, refl, ap, ◌∙◌, inl, inr, ⊎_elim, true≢false, arith}
+use Rattle.std.proofs.Common.{◌≡◌, ℕ, suc, ◌+◌, ◌*◌, ◌^◌, ◌<◌, ◌≤◌, Bool, true, ◌⊎◌, List, length, refl, ap, ◌∙◌, inl, inr, ⊎_elim, arith}
 use lib.Ieee.{Float, to_unsigned}
 use Rattle.ieee.specs.Binary64.{◌⊘◌, 8f}
 use Rattle.fifo.specs.FluidFifo.{new}
@@ -35,19 +35,19 @@ use Rattle.tstd.specs.InWork.{model_by, stream_model, branch_in, units_of, Chain
 
 -- ---- the branch of a chain, by its kind
 
-record BranchIs (w : List Float) (m : TStdBranch) (pid base depth k : ℕ) (b : MainBranch) (v : VideoBranch) (y : Branch) : Type 0 where
-  pub branch : branch_in w (model_by m pid base depth) b v ≡ y
-  pub main_lies : (model_by m pid base depth).is_video ≡ false → BranchLies w (model_by m pid base depth).main b
-  pub video_lies : (model_by m pid base depth).is_video ≡ true → VideoLies w (layout_of (model_by m pid base depth).video) v
+record BranchIs (w : List Float) (m : TStdBranch) (base depth k : ℕ) (b : MainBranch) (v : VideoBranch) (y : Branch) : Type 0 where
+  pub branch : branch_in w (model_by m base depth) b v ≡ y
+  pub main_lies : (p : MainModel) → model_by m base depth ≡ StreamModel.Main p → BranchLies w p b
+  pub video_lies : (p : VideoModel) → model_by m base depth ≡ StreamModel.Video p → VideoLies w (layout_of p) v
   pub room : base + 8 * depth ≤ length w
   pub units : units_of y ≤ k
 
 of_chain : {w : List Float} {s : TStdStream} {base depth k : ℕ} {t : FluidFifo} {b : MainBranch} {v : VideoBranch} {x : Chain}
-    → ChainIs w s base depth k t b v x → BranchIs w s.model.branch s.pid base depth k b v x.branch
+    → ChainIs w s base depth k t b v x → BranchIs w s.model.branch base depth k b v x.branch
 of_chain c = record { branch = c.branch; main_lies = c.main_lies; video_lies = c.video_lies; room = c.room; units = c.units }
 
 chain_of_lem : {w : List Float} {s : TStdStream} {base depth k : ℕ} {t : FluidFifo} {b : MainBranch} {v : VideoBranch} {x : Chain}
-    → t ≡ x.tb → BranchIs w s.model.branch s.pid base depth k b v x.branch → ChainIs w s base depth k t b v x
+    → t ≡ x.tb → BranchIs w s.model.branch base depth k b v x.branch → ChainIs w s base depth k t b v x
 chain_of_lem e c = record { tb = e; branch = c.branch; main_lies = c.main_lies; video_lies = c.video_lies; room = c.room; units = c.units }
 
 -- the model of a kind
@@ -57,33 +57,47 @@ main_model size base depth = record { buffer_size = float size; base = base; dep
 abbrev video_model : ℕ → ℕ → ℕ → ℕ → ℕ → VideoModel
 video_model rbx mb eb base depth = record { rbx = float rbx ⊘ 8f; mb_size = float mb; eb_size = float eb; base = base; depth = depth }
 
-module _ {w : List Float} {pid base depth k : ℕ} {b : MainBranch} {v : VideoBranch} {y : Branch} where
+module _ {w : List Float} {base depth k : ℕ} {b : MainBranch} {v : VideoBranch} {y : Branch} where
   main_is : (size : ℕ) → main (main_of w (main_model size base depth) b) ≡ y → BranchLies w (main_model size base depth) b → base + 8 * depth ≤ length w → units_of y ≤ k
-      → BranchIs w (TStdBranch.Main size) pid base depth k b v y
+      → BranchIs w (TStdBranch.Main size) base depth k b v y
   unfolding branch_in model_by
-  main_is size e l r u = record { branch = e; main_lies = λ h. l; video_lies = λ h. absurd (true≢false (sym h)); room = r; units = u }
+  main_is size e l r u =
+      record {
+        branch = e;
+        main_lies = λ p h. (let q : main_model size base depth ≡ p = cc in rw (← q) l);
+        video_lies = λ p h. absurd (cc);
+        room = r;
+        units = u;
+      }
 
   video_is : (rbx mb eb : ℕ) → video (chain_of w (layout_of (video_model rbx mb eb base depth)) v) ≡ y → VideoLies w (layout_of (video_model rbx mb eb base depth)) v → base + 8 * depth ≤ length w → units_of y ≤ k
-      → BranchIs w (TStdBranch.Video rbx mb eb) pid base depth k b v y
+      → BranchIs w (TStdBranch.Video rbx mb eb) base depth k b v y
   unfolding branch_in model_by
-  video_is rbx mb eb e l r u = record { branch = e; main_lies = λ h. absurd (true≢false h); video_lies = λ h. l; room = r; units = u }
+  video_is rbx mb eb e l r u =
+      record {
+        branch = e;
+        main_lies = λ p h. absurd (cc);
+        video_lies = λ p h. (let q : video_model rbx mb eb base depth ≡ p = cc in rw (← q) l);
+        room = r;
+        units = u;
+      }
 
 -- ---- the new chain
 
-new_by : (w : List Float) (s : TStdStream) (m : TStdBranch) (pid base depth : ℕ) → s.model.branch ≡ m → 0 < depth → base + 8 * depth ≤ length w
-    → BranchIs w m pid base depth 0 main-work.new_branch video-work.new_branch (new_chain s).branch
+new_by : (w : List Float) (s : TStdStream) (m : TStdBranch) (base depth : ℕ) → s.model.branch ≡ m → 0 < depth → base + 8 * depth ≤ length w
+    → BranchIs w m base depth 0 main-work.new_branch video-work.new_branch (new_chain s).branch
 unfolding new_chain new_main new_video
-new_by w s (TStdBranch.Main size) pid base depth e d r =
+new_by w s (TStdBranch.Main size) base depth e d r =
     let p = main_model size base depth in
     rw e (main_is size (ap main (main-laws.new_is w p)) (main-laws.new_lies w p d (omega arith)) r (omega arith))
-new_by w s (TStdBranch.Video rbx mb eb) pid base depth e d r =
+new_by w s (TStdBranch.Video rbx mb eb) base depth e d r =
     let p = video_model rbx mb eb base depth in
     rw e (video_is rbx mb eb (ap video (video-laws.new_is w (layout_of p))) (video-laws.new_lies w p d r) r (omega arith))
 
 pub new_is : (w : List Float) (s : TStdStream) (base depth : ℕ) (t : FluidFifo) → 0 < depth → base + 8 * depth ≤ length w → t ≡ new s.model.rx_bps
     → ChainIs w s base depth 0 t main-work.new_branch video-work.new_branch (new_chain s)
 unfolding new_chain
-new_is w s base depth t d r e = chain_of_lem e (new_by w s s.model.branch s.pid base depth refl d r)
+new_is w s base depth t d r e = chain_of_lem e (new_by w s s.model.branch base depth refl d r)
 
 -- ---- a step
 
@@ -95,11 +109,11 @@ end_any (TStdBranch.Main size) depth d d' time time' (video b) = refl
 end_any (TStdBranch.Video rbx mb eb) depth d d' time time' (main b) = refl
 end_any (TStdBranch.Video rbx mb eb) depth d d' time time' (video b) = refl
 
-record BranchStepIs (w u : List Float) (m : TStdBranch) (pid base depth k slot : ℕ) (sl sl' : Slots) (st : Stepped) (isFull : Bool) (b : MainBranch) (v : VideoBranch) : Type 0 where
+record BranchStepIs (w u : List Float) (m : TStdBranch) (base depth k slot : ℕ) (sl sl' : Slots) (st : Stepped) (isFull : Bool) (b : MainBranch) (v : VideoBranch) : Type 0 where
   pub full : isFull ≡ st.full
   pub slots : sl' ≡ noted_all slot st.events sl
   pub outside : SameOutside base (base + 8 * depth) w u
-  pub branch : BranchIs u m pid base depth (suc k) b v st.branch
+  pub branch : BranchIs u m base depth (suc k) b v st.branch
 
 -- a step of the chain of stream s to st: isFull is what the code says, u the work, sl' the slots, b and v the branches after it
 pub record StepIs (w u : List Float) (s : TStdStream) (base depth k slot : ℕ) (sl sl' : Slots) (st : Stepped) (isFull : Bool) (b : MainBranch) (v : VideoBranch) : Type 0 where
@@ -109,13 +123,13 @@ pub record StepIs (w u : List Float) (s : TStdStream) (base depth k slot : ℕ) 
   pub chain : (t : FluidFifo) (z : Chain) → t ≡ z.tb → st.branch ≡ z.branch → ChainIs u s base depth (suc k) t b v z
 
 step_of : {w u : List Float} {s : TStdStream} {base depth k slot : ℕ} {sl sl' : Slots} {st : Stepped} {full : Bool} {b : MainBranch} {v : VideoBranch}
-    → BranchStepIs w u s.model.branch s.pid base depth k slot sl sl' st full b v → StepIs w u s base depth k slot sl sl' st full b v
+    → BranchStepIs w u s.model.branch base depth k slot sl sl' st full b v → StepIs w u s base depth k slot sl sl' st full b v
 step_of a = record { full = a.full; slots = a.slots; outside = a.outside; chain = λ t z e f. chain_of_lem e (rw f at a.branch) }
 
-module _ (w u : List Float) (pid base depth k : ℕ) (b : MainBranch) (v : VideoBranch) (d : Delivered) (end : Bool) (time : Float) (slot : ℕ) (sl sl' : Slots) (hs : slot < 64) (hk : k < 2 ^ 62) where
+module _ (w u : List Float) (base depth k : ℕ) (b : MainBranch) (v : VideoBranch) (d : Delivered) (end : Bool) (time : Float) (slot : ℕ) (sl sl' : Slots) (hs : slot < 64) (hk : k < 2 ^ 62) where
   main_stepped : (size : ℕ) (y : Branch) (r : MainStepped) → main (main_of w (main_model size base depth) b) ≡ y → BranchLies w (main_model size base depth) b → base + 8 * depth ≤ length w → units_of y ≤ k
       → main-work.StepOf w (main_model size base depth) b d end time slot sl r u sl'
-      → BranchStepIs w u (TStdBranch.Main size) pid base depth k slot sl sl' (step_branch (TStdBranch.Main size) depth d end time y) r.full r.branch v
+      → BranchStepIs w u (TStdBranch.Main size) base depth k slot sl sl' (step_branch (TStdBranch.Main size) depth d end time y) r.full r.branch v
   unfolding step_branch main_of
   main_stepped size y r e l room units q =
       let p = main_model size base depth in
@@ -127,7 +141,7 @@ module _ (w u : List Float) (pid base depth k : ℕ) (b : MainBranch) (v : Video
 
   video_stepped : (rbx mb eb : ℕ) (y : Branch) (r : VideoStepped) → video (chain_of w (layout_of (video_model rbx mb eb base depth)) v) ≡ y → VideoLies w (layout_of (video_model rbx mb eb base depth)) v → base + 8 * depth ≤ length w → units_of y ≤ k
       → video-work.StepOf w (video_model rbx mb eb base depth) v d end time slot sl r u sl'
-      → BranchStepIs w u (TStdBranch.Video rbx mb eb) pid base depth k slot sl sl' (step_branch (TStdBranch.Video rbx mb eb) depth d end time y) r.full b r.branch
+      → BranchStepIs w u (TStdBranch.Video rbx mb eb) base depth k slot sl sl' (step_branch (TStdBranch.Video rbx mb eb) depth d end time y) r.full b r.branch
   unfolding step_branch chain_of video_of
   video_stepped rbx mb eb y r e l room units q =
       let p = video_model rbx mb eb base depth in
@@ -138,29 +152,33 @@ module _ (w u : List Float) (pid base depth k : ℕ) (b : MainBranch) (v : Video
       let o : SameOutside base (base + 8 * depth) w u = outside_wider (omega arith) (omega arith) a.outside in
       rw (← e) (record { full = a.full; slots = a.slots; outside = o; branch = video_is rbx mb eb (ap video a.state) a.lies (rw o.size room) (omega arith) })
 
-  main_by : (m : TStdBranch) (y : Branch) (r : MainStepped) → (model_by m pid base depth).is_video ≡ false → BranchIs w m pid base depth k b v y
-      → main-work.StepOf w (model_by m pid base depth).main b d end time slot sl r u sl'
-      → BranchStepIs w u m pid base depth k slot sl sl' (step_branch m depth d end time y) r.full r.branch v
+  main_by : (m : TStdBranch) (p : MainModel) (y : Branch) (r : MainStepped) → model_by m base depth ≡ StreamModel.Main p → BranchIs w m base depth k b v y
+      → main-work.StepOf w p b d end time slot sl r u sl'
+      → BranchStepIs w u m base depth k slot sl sl' (step_branch m depth d end time y) r.full r.branch v
   unfolding model_by branch_in
-  main_by (TStdBranch.Main size) y r h i q = main_stepped size y r i.branch (i.main_lies refl) i.room i.units q
-  main_by (TStdBranch.Video rbx mb eb) y r h i q = absurd (true≢false h)
+  main_by (TStdBranch.Main size) p y r h i q =
+      let e : p ≡ main_model size base depth = cc in
+      main_stepped size y r i.branch (i.main_lies _ refl) i.room i.units (rw e at q)
+  main_by (TStdBranch.Video rbx mb eb) p y r h i q = absurd (cc)
 
-  video_by : (m : TStdBranch) (y : Branch) (r : VideoStepped) → (model_by m pid base depth).is_video ≡ true → BranchIs w m pid base depth k b v y
-      → video-work.StepOf w (model_by m pid base depth).video v d end time slot sl r u sl'
-      → BranchStepIs w u m pid base depth k slot sl sl' (step_branch m depth d end time y) r.full b r.branch
+  video_by : (m : TStdBranch) (p : VideoModel) (y : Branch) (r : VideoStepped) → model_by m base depth ≡ StreamModel.Video p → BranchIs w m base depth k b v y
+      → video-work.StepOf w p v d end time slot sl r u sl'
+      → BranchStepIs w u m base depth k slot sl sl' (step_branch m depth d end time y) r.full b r.branch
   unfolding model_by branch_in
-  video_by (TStdBranch.Main size) y r h i q = absurd (true≢false (sym h))
-  video_by (TStdBranch.Video rbx mb eb) y r h i q = video_stepped rbx mb eb y r i.branch (i.video_lies refl) i.room i.units q
+  video_by (TStdBranch.Main size) p y r h i q = absurd (cc)
+  video_by (TStdBranch.Video rbx mb eb) p y r h i q =
+      let e : p ≡ video_model rbx mb eb base depth = cc in
+      video_stepped rbx mb eb y r i.branch (i.video_lies _ refl) i.room i.units (rw e at q)
 
 module _ {w u : List Float} {s : TStdStream} {base depth k : ℕ} {t : FluidFifo} {b : MainBranch} {v : VideoBranch} {x : Chain} (c : ChainIs w s base depth k t b v x)
     {d : Delivered} {end : Bool} {time : Float} {slot : ℕ} {sl sl' : Slots} (hs : slot < 64) (hk : k < 2 ^ 62) where
-  pub main_steps : {r : MainStepped} → (stream_model s base depth).is_video ≡ false → main-work.StepOf w (stream_model s base depth).main b d end time slot sl r u sl'
+  pub main_steps : {p : MainModel} {r : MainStepped} → stream_model s base depth ≡ StreamModel.Main p → main-work.StepOf w p b d end time slot sl r u sl'
       → StepIs w u s base depth k slot sl sl' (step_branch s.model.branch depth d end time x.branch) r.full r.branch v
-  main_steps {r} h q = step_of (main_by w u s.pid base depth k b v d end time slot sl sl' hs hk s.model.branch x.branch r h (of_chain c) q)
+  main_steps {p} {r} h q = step_of (main_by w u base depth k b v d end time slot sl sl' hs hk s.model.branch p x.branch r h (of_chain c) q)
 
-  pub video_steps : {r : VideoStepped} → (stream_model s base depth).is_video ≡ true → video-work.StepOf w (stream_model s base depth).video v d end time slot sl r u sl'
+  pub video_steps : {p : VideoModel} {r : VideoStepped} → stream_model s base depth ≡ StreamModel.Video p → video-work.StepOf w p v d end time slot sl r u sl'
       → StepIs w u s base depth k slot sl sl' (step_branch s.model.branch depth d end time x.branch) r.full b r.branch
-  video_steps {r} h q = step_of (video_by w u s.pid base depth k b v d end time slot sl sl' hs hk s.model.branch x.branch r h (of_chain c) q)
+  video_steps {p} {r} h q = step_of (video_by w u base depth k b v d end time slot sl sl' hs hk s.model.branch p x.branch r h (of_chain c) q)
 
 -- ---- a change of the work elsewhere, and a larger count
 
@@ -183,22 +201,22 @@ module _ {lo hi : ℕ} {w u : List Float} (o : SameOutside lo hi w u) where
         kept 3 (λ z i. unit_of (three_at z i)) (three_local unit_of) m.units v.pending l.pending o (⊎_elim (λ x. inl (omega arith)) (λ x. inr (omega arith)) h),
       )
 
-  kept_by : (m : TStdBranch) (pid base depth k : ℕ) (b : MainBranch) (v : VideoBranch) (y : Branch) → BranchIs w m pid base depth k b v y → (base + 8 * depth ≤ lo) ⊎ (hi ≤ base)
-      → BranchIs u m pid base depth k b v y
+  kept_by : (m : TStdBranch) (base depth k : ℕ) (b : MainBranch) (v : VideoBranch) (y : Branch) → BranchIs w m base depth k b v y → (base + 8 * depth ≤ lo) ⊎ (hi ≤ base)
+      → BranchIs u m base depth k b v y
   unfolding model_by branch_in
-  kept_by (TStdBranch.Main size) pid base depth k b v y i h =
+  kept_by (TStdBranch.Main size) base depth k b v y i h =
       let p = main_model size base depth in
-      let l = i.main_lies refl in
+      let l = i.main_lies _ refl in
       main_is size (ap main (main_kept p b l h) ∙ i.branch) (record { runs = lies_kept o l.runs; pending = lies_kept o l.pending }) (rw o.size i.room) i.units
-  kept_by (TStdBranch.Video rbx mb eb) pid base depth k b v y i h =
+  kept_by (TStdBranch.Video rbx mb eb) base depth k b v y i h =
       let p = video_model rbx mb eb base depth in
-      let l = i.video_lies refl in
+      let l = i.video_lies _ refl in
       video_is rbx mb eb (ap video (video_kept p v l h) ∙ i.branch)
       (record { leak = record { runs = lies_kept o l.leak.runs; marks = lies_kept o l.leak.marks }; pending = lies_kept o l.pending }) (rw o.size i.room) i.units
 
 module _ {w : List Float} {s : TStdStream} {base depth k : ℕ} {t : FluidFifo} {b : MainBranch} {v : VideoBranch} {x : Chain} (c : ChainIs w s base depth k t b v x) where
   pub chain_kept : {lo hi : ℕ} {u : List Float} → SameOutside lo hi w u → (base + 8 * depth ≤ lo) ⊎ (hi ≤ base) → ChainIs u s base depth k t b v x
-  chain_kept o h = chain_of_lem c.tb (kept_by o s.model.branch s.pid base depth k b v x.branch (of_chain c) h)
+  chain_kept o h = chain_of_lem c.tb (kept_by o s.model.branch base depth k b v x.branch (of_chain c) h)
 
   pub chain_more : {k' : ℕ} → k ≤ k' → ChainIs w s base depth k' t b v x
   chain_more h =
@@ -206,16 +224,16 @@ module _ {w : List Float} {s : TStdStream} {base depth k : ℕ} {t : FluidFifo} 
 
 -- ---- the chain's figures
 
-main_here : (w : List Float) (m : StreamModel) (b : MainBranch) (v : VideoBranch) (y : Branch) → m.is_video ≡ false → branch_in w m b v ≡ y → main (main_of w m.main b) ≡ y
+main_here : (w : List Float) (m : StreamModel) (p : MainModel) (b : MainBranch) (v : VideoBranch) (y : Branch) → m ≡ StreamModel.Main p → branch_in w m b v ≡ y → main (main_of w p b) ≡ y
 unfolding branch_in
-main_here w m b v y h e = rw h at e
+main_here w m p b v y h e = rw h at e
 
-video_here : (w : List Float) (m : StreamModel) (b : MainBranch) (v : VideoBranch) (y : Branch) → m.is_video ≡ true → branch_in w m b v ≡ y → video (chain_of w (layout_of m.video) v) ≡ y
+video_here : (w : List Float) (m : StreamModel) (p : VideoModel) (b : MainBranch) (v : VideoBranch) (y : Branch) → m ≡ StreamModel.Video p → branch_in w m b v ≡ y → video (chain_of w (layout_of p) v) ≡ y
 unfolding branch_in
-video_here w m b v y h e = rw h at e
+video_here w m p b v y h e = rw h at e
 
 module _ {w : List Float} {s : TStdStream} {base depth k : ℕ} {t : FluidFifo} {b : MainBranch} {v : VideoBranch} {x : Chain} (c : ChainIs w s base depth k t b v x) where
-  pub stats_main : (stream_model s base depth).is_video ≡ false
+  pub stats_main : (p : MainModel) → stream_model s base depth ≡ StreamModel.Main p
       → stats_of s x
       ≡ record {
         pid = s.pid;
@@ -226,12 +244,11 @@ module _ {w : List Float} {s : TStdStream} {base depth k : ℕ} {t : FluidFifo} 
         max_delay_seconds = b.max_delay_seconds;
       }
   unfolding stats_of
-  stats_main h =
-      let m = stream_model s base depth in
-      let f = main-laws.figures_of_lem w m.main b in
-      rw (← main_here w m b v x.branch h c.branch, ← c.tb, f.0, f.1.0, f.1.1)
+  stats_main p h =
+      let f = main-laws.figures_of_lem w p b in
+      rw (← main_here w (stream_model s base depth) p b v x.branch h c.branch, ← c.tb, f.0, f.1.0, f.1.1)
 
-  pub stats_video : (stream_model s base depth).is_video ≡ true
+  pub stats_video : (p : VideoModel) → stream_model s base depth ≡ StreamModel.Video p
       → stats_of s x
       ≡ record {
         pid = s.pid;
@@ -242,7 +259,6 @@ module _ {w : List Float} {s : TStdStream} {base depth k : ℕ} {t : FluidFifo} 
         max_delay_seconds = v.max_delay_seconds;
       }
   unfolding stats_of chain_of
-  stats_video h =
-      let m = stream_model s base depth in
-      let f = video-laws.figures_of_lem w (layout_of m.video) v in
-      rw (← video_here w m b v x.branch h c.branch, ← c.tb, f.0.0, f.0.1, f.1.0, f.1.1)
+  stats_video p h =
+      let f = video-laws.figures_of_lem w (layout_of p) v in
+      rw (← video_here w (stream_model s base depth) p b v x.branch h c.branch, ← c.tb, f.0.0, f.0.1, f.1.0, f.1.1)

@@ -13,8 +13,10 @@ use Rattle.arrival.specs.Work.{start_of_arrival, next_arrival, holds}
 use Rattle.arrival.proofs.Covering.{starts}
 use Rattle.events.specs.Slots.{Slots, slots, noted_all}
 use Rattle.branch.specs.SysBranch.{rsys_of, sys_events}
+use Rattle.branch.specs.declared.main_branch.MainModel.{MainModel}
 use Rattle.branch.specs.declared.main_branch.MainBranch.{MainBranch}
 use Rattle.branch.specs.declared.main_branch.Stepped.{Stepped as MainStepped}
+use Rattle.branch.specs.declared.video_branch.VideoModel.{VideoModel}
 use Rattle.branch.specs.declared.video_branch.VideoBranch.{VideoBranch}
 use Rattle.branch.specs.declared.video_branch.Stepped.{Stepped as VideoStepped}
 use Rattle.branch.specs.Queue.{SameOutside}
@@ -392,46 +394,46 @@ module _ (g : Pass) (ready : Ready g) (k at : ℕ) (isFull : Bool) (w : List Flo
               outside = outside_then inv.now.outside (outside_wider (omega arith) (next_multiple (8 * depth_of g) i (stream_count g) moves.in_use) x.outside);
             }
 
-        pub main_turn : model.is_video ≡ false → (b : MainBranch) → b ≡ get_or ms i main-work.new_branch → (st : MainStepped)
-            → main-work.StepOf w model.main b a.delivered m.end times'.arrival.t0 (1 + 6 * i) sl₁ st u sl'
+        pub main_turn : {p : MainModel} → model ≡ StreamModel.Main p → (b : MainBranch) → b ≡ get_or ms i main-work.new_branch → (st : MainStepped)
+            → main-work.StepOf w p b a.delivered m.end times'.arrival.t0 (1 + 6 * i) sl₁ st u sl'
             → (ms' : List MainBranch) → ms' ≡ set ms i st.branch → StreamTurn u ts' ms' vs st.full sl'
         main_turn kind b is_b st x ms' is-ms =
             any_turn ms' vs st.branch (get_or vs i video-work.new_branch) st.full
-            (main_steps (inv.now.chains i moves.in_use) (omega arith) few_steps (rw is-model at kind) (rw (is-model, is_b) at x))
+            (main_steps (inv.now.chains i moves.in_use) (omega arith) few_steps (sym is-model ∙ kind) (rw is_b at x))
             (rw is-ms (replaced_set main-work.new_branch ms i st.branch inv.now.ms_size near))
             (replaced_none video-work.new_branch vs i inv.now.vs_size)
 
-        pub video_turn : model.is_video ≡ true → (v : VideoBranch) → v ≡ get_or vs i video-work.new_branch → (st : VideoStepped)
-            → video-work.StepOf w model.video v a.delivered m.end times'.arrival.t0 (1 + 6 * i) sl₁ st u sl'
+        pub video_turn : {p : VideoModel} → model ≡ StreamModel.Video p → (v : VideoBranch) → v ≡ get_or vs i video-work.new_branch → (st : VideoStepped)
+            → video-work.StepOf w p v a.delivered m.end times'.arrival.t0 (1 + 6 * i) sl₁ st u sl'
             → (vs' : List VideoBranch) → vs' ≡ set vs i st.branch → StreamTurn u ts' ms vs' st.full sl'
         video_turn kind v is-v st x vs' is-vs =
             any_turn ms vs' (get_or ms i main-work.new_branch) st.branch st.full
-            (video_steps (inv.now.chains i moves.in_use) (omega arith) few_steps (rw is-model at kind) (rw (is-model, is-v) at x))
+            (video_steps (inv.now.chains i moves.in_use) (omega arith) few_steps (sym is-model ∙ kind) (rw is-v at x))
             (replaced_none main-work.new_branch ms i inv.now.ms_size)
             (rw is-vs (replaced_set video-work.new_branch vs i st.branch inv.now.vs_size near))
 
         -- the loop is left, or goes on, with what the `if`s leave in the variables
         module _ (u₂ : List Float) (e-u : u₂ ≡ u) where
-          pub main_refuses : model.is_video ≡ false → (b : MainBranch) → b ≡ get_or ms i main-work.new_branch → (st : MainStepped)
-              → main-work.StepOf w model.main b a.delivered m.end times'.arrival.t0 (1 + 6 * i) sl₁ st u sl'
+          pub main_refuses : {p : MainModel} → model ≡ StreamModel.Main p → (b : MainBranch) → b ≡ get_or ms i main-work.new_branch → (st : MainStepped)
+              → main-work.StepOf w p b a.delivered m.end times'.arrival.t0 (1 + 6 * i) sl₁ st u sl'
               → (r : RanState) → r.full ≡ true → st.full ≡ true → r.step ≡ k → r.owner ≡ i → RanTo g r u₂
           main_refuses kind b is_b st x r ef e es eo = rw e-u (stream_refuses (main_turn kind b is_b st x (set ms i st.branch) refl) r ef e es eo)
 
-          pub video_refuses : model.is_video ≡ true → (v : VideoBranch) → v ≡ get_or vs i video-work.new_branch → (st : VideoStepped)
-              → video-work.StepOf w model.video v a.delivered m.end times'.arrival.t0 (1 + 6 * i) sl₁ st u sl'
+          pub video_refuses : {p : VideoModel} → model ≡ StreamModel.Video p → (v : VideoBranch) → v ≡ get_or vs i video-work.new_branch → (st : VideoStepped)
+              → video-work.StepOf w p v a.delivered m.end times'.arrival.t0 (1 + 6 * i) sl₁ st u sl'
               → (r : RanState) → r.full ≡ true → st.full ≡ true → r.step ≡ k → r.owner ≡ i → RanTo g r u₂
           video_refuses kind v is-v st x r ef e es eo = rw e-u (stream_refuses (video_turn kind v is-v st x (set vs i st.branch) refl) r ef e es eo)
 
           module _ (ts₂ : List FluidFifo) (e-ts : ts₂ ≡ ts') (ss₂ : List PesScanner) (e-ss : ss₂ ≡ ss') (ms₂ : List MainBranch) (vs₂ : List VideoBranch) (system₂ : SystemChain) (e-system : system₂ ≡ system) (firsts₂ : List ℕ) (figures₂ : List Float) (e-slots : slots firsts₂ figures₂ ≡ sl') (full₂ : Bool) where
-            pub main_again : model.is_video ≡ false → (b : MainBranch) → b ≡ get_or ms i main-work.new_branch → (st : MainStepped)
-                → main-work.StepOf w model.main b a.delivered m.end times'.arrival.t0 (1 + 6 * i) sl₁ st u sl'
+            pub main_again : {p : MainModel} → model ≡ StreamModel.Main p → (b : MainBranch) → b ≡ get_or ms i main-work.new_branch → (st : MainStepped)
+                → main-work.StepOf w p b a.delivered m.end times'.arrival.t0 (1 + 6 * i) sl₁ st u sl'
                 → ms₂ ≡ set ms i st.branch → vs₂ ≡ vs → full₂ ≡ st.full → full₂ ≡ false
                 → LoopInv g (k + 1) (at + g.layout.packet_size) full₂ u₂ ts₂ ss₂ ms₂ vs₂ system₂ times' (slots firsts₂ figures₂)
             main_again kind b is_b st x em ev ef e =
                 record { ready = ready; loop = rw (e-u, e-ts, e-ss, e-system, e-slots, ef, ev) (stream_again (main_turn kind b is_b st x ms₂ em) (sym ef ∙ e)) }
 
-            pub video_again : model.is_video ≡ true → (v : VideoBranch) → v ≡ get_or vs i video-work.new_branch → (st : VideoStepped)
-                → video-work.StepOf w model.video v a.delivered m.end times'.arrival.t0 (1 + 6 * i) sl₁ st u sl'
+            pub video_again : {p : VideoModel} → model ≡ StreamModel.Video p → (v : VideoBranch) → v ≡ get_or vs i video-work.new_branch → (st : VideoStepped)
+                → video-work.StepOf w p v a.delivered m.end times'.arrival.t0 (1 + 6 * i) sl₁ st u sl'
                 → vs₂ ≡ set vs i st.branch → ms₂ ≡ ms → full₂ ≡ st.full → full₂ ≡ false
                 → LoopInv g (k + 1) (at + g.layout.packet_size) full₂ u₂ ts₂ ss₂ ms₂ vs₂ system₂ times' (slots firsts₂ figures₂)
             video_again kind v is-v st x ev em ef e =

@@ -1,6 +1,6 @@
 -- The rows of the chains' figures: set one after the other, and the chains of the definition whose figures they are.
 -- Assumes nothing.
-use Rattle.std.proofs.Common.{◌≡◌, ℕ, zero, suc, ◌+◌, ◌-◌, ◌*◌, ◌<◌, ◌≤◌, true, false, List, [], ◌∷◌, ◌++◌, length, get_or, take, set, replicate, sym, refl, ap, ◌∙◌, append-nil, add-zero, zero-add, add-one, arith, length-append, length-take, length-take-le, get_or-take, take-suc, eq-eqb, ne_eqb}
+use Rattle.std.proofs.Common.{◌≡◌, ℕ, zero, suc, ◌+◌, ◌-◌, ◌*◌, ◌<◌, ◌≤◌, List, [], ◌∷◌, ◌++◌, length, get_or, take, set, replicate, sym, refl, ap, ◌∙◌, append-nil, add-zero, zero-add, add-one, arith, length-append, length-take, length-take-le, get_or-take, take-suc, eq-eqb, ne_eqb}
 use native.Mathlib.Nat.{min-le_left}
 use lib.Seq.{set-append_seam, append_snoc}
 use lib.Ieee.{Float}
@@ -8,7 +8,9 @@ use Rattle.report.specs.declared.TStdChainStats.{TStdChainStats}
 use Rattle.report.specs.Report.{empty_stats}
 use Rattle.answer.specs.declared.Figures.{Figures}
 use Rattle.answer.specs.Answer.{figures_of}
+use Rattle.branch.specs.declared.main_branch.MainModel.{MainModel}
 use Rattle.branch.specs.declared.main_branch.MainBranch.{MainBranch}
+use Rattle.branch.specs.declared.video_branch.VideoModel.{VideoModel}
 use Rattle.branch.specs.declared.video_branch.VideoBranch.{VideoBranch}
 use Rattle.branch.specs.MainInWork as main-work
 use Rattle.branch.specs.VideoInWork as video-work
@@ -20,6 +22,7 @@ use Rattle.fifo.specs.declared.FluidFifo.{FluidFifo}
 use Rattle.model.specs.Chain.{Chain, new_chain, stats_of, whole}
 use Rattle.model.specs.Replay.{State, stream_stats, system_stats}
 use Rattle.tstd.specs.declared.front.SystemChain.{SystemChain}
+use Rattle.tstd.specs.declared.stream.StreamModel.{StreamModel}
 use Rattle.tstd.specs.InWork.{model_by, unused_tb, ChainIs}
 use Rattle.tstd.specs.Figures.{row_by, stream_row, rows_from, system_row, system_rows}
 use Rattle.tstd.proofs.ChainIs.{stats_main, stats_video}
@@ -126,7 +129,7 @@ module _ (c : TStdConfig) (s : SystemChain) (fs rows : List TStdChainStats) (n :
 -- ---- the chains of the definition
 
 row_by_lem : (m : TStdBranch) (p base depth : ℕ) (t : FluidFifo) (b : MainBranch) (v : VideoBranch) (r : TStdChainStats)
-    → ((model_by m p base depth).is_video ≡ false
+    → ((q : MainModel) → model_by m base depth ≡ StreamModel.Main q
     → r ≡ record {
       pid = p;
       peak_tb_bytes = whole t.peak;
@@ -135,7 +138,7 @@ row_by_lem : (m : TStdBranch) (p base depth : ℕ) (t : FluidFifo) (b : MainBran
       access_units = b.access_units;
       max_delay_seconds = b.max_delay_seconds;
     })
-    → ((model_by m p base depth).is_video ≡ true
+    → ((q : VideoModel) → model_by m base depth ≡ StreamModel.Video q
     → r ≡ record {
       pid = p;
       peak_tb_bytes = whole t.peak;
@@ -146,8 +149,8 @@ row_by_lem : (m : TStdBranch) (p base depth : ℕ) (t : FluidFifo) (b : MainBran
     })
     → row_by m p t b v ≡ r
 unfolding row_by model_by
-row_by_lem (TStdBranch.Main size) p base depth t b v r f g = sym (f refl)
-row_by_lem (TStdBranch.Video rbx mb eb) p base depth t b v r f g = sym (g refl)
+row_by_lem (TStdBranch.Main size) p base depth t b v r f g = sym (f _ refl)
+row_by_lem (TStdBranch.Video rbx mb eb) p base depth t b v r f g = sym (g _ refl)
 
 pub row_is : {w : List Float} {s : TStdStream} {base depth k : ℕ} {t : FluidFifo} {b : MainBranch} {v : VideoBranch} {x : Chain}
     → ChainIs w s base depth k t b v x → stream_row s t b v ≡ stats_of s x

@@ -4,6 +4,7 @@ ghost use Rattle.tstd.specs.Run.{Ready, pass_of, RanTo};
 
 use crate::front::SystemChain;
 use crate::moment::Times;
+use crate::stream::StreamModel;
 use crate::{front, moment, owners, skip, stream};
 use branch::main_branch::MainBranch;
 use branch::video_branch::VideoBranch;
@@ -42,16 +43,12 @@ pub(crate) fn run(
     ensures { RanTo (pass_of config bytes.now layout count work.old places.now intervals) result work.new }
 {
     let from = 8 * config.queue_depth * config.stream_count;
-    let pids = config.pids();
-    let owners = owners::owner_table(pids);
+    let owners = owners::owner_table(config.pids());
     let models = stream::models(config);
     let mut tbs = stream::tbs(config);
-    let s0 = PesScanner::new();
-    let mut scanners = [s0; 8];
-    let m0 = MainBranch::new();
-    let v0 = VideoBranch::new();
-    let mut mains = [m0; 8];
-    let mut videos = [v0; 8];
+    let mut scanners = [PesScanner::new(); 8];
+    let mut mains = [MainBranch::new(); 8];
+    let mut videos = [VideoBranch::new(); 8];
     let mut system = front::new_system();
     let mut firsts = [0u64; 64];
     let mut figures = [0.0f64; 128];
@@ -70,52 +67,41 @@ pub(crate) fn run(
             let known = scanners[i];
             let mut runs = front::unfed(known, window, m);
             if front::scans(known, m) {
-                let before = scanners[i];
-                let fed = front::feed(before, window, m);
-                let behind = fed.scanner;
-                scanners[i] = behind;
+                let fed = front::feed(scanners[i], window, m);
+                scanners[i] = fed.scanner;
                 runs = fed.runs;
             }
-            let tb = tbs[i];
-            let d = front::front(tb, runs, m, a, &mut firsts, &mut figures, 1 + 6 * i);
-            let g = d.tb;
-            tbs[i] = g;
-            let delivered = d.delivered;
-            let kind = models[i];
-            if kind.is_video {
-                let b = videos[i];
-                let model = models[i];
-                let p = model.video;
-                let s = b.step(
-                    p,
-                    work,
-                    delivered,
-                    m.end,
-                    a.t0,
-                    &mut firsts,
-                    &mut figures,
-                    1 + 6 * i,
-                );
-                let v = s.branch;
-                videos[i] = v;
-                full = s.full;
-            } else {
-                let b = mains[i];
-                let model = models[i];
-                let p = model.main;
-                let s = b.step(
-                    p,
-                    work,
-                    delivered,
-                    m.end,
-                    a.t0,
-                    &mut firsts,
-                    &mut figures,
-                    1 + 6 * i,
-                );
-                let v = s.branch;
-                mains[i] = v;
-                full = s.full;
+            let d = front::front(tbs[i], runs, m, a, &mut firsts, &mut figures, 1 + 6 * i);
+            tbs[i] = d.tb;
+            match models[i] {
+                StreamModel::Video(model) => {
+                    let s = videos[i].step(
+                        model,
+                        work,
+                        d.delivered,
+                        m.end,
+                        a.t0,
+                        &mut firsts,
+                        &mut figures,
+                        1 + 6 * i,
+                    );
+                    videos[i] = s.branch;
+                    full = s.full;
+                }
+                StreamModel::Main(model) => {
+                    let s = mains[i].step(
+                        model,
+                        work,
+                        d.delivered,
+                        m.end,
+                        a.t0,
+                        &mut firsts,
+                        &mut figures,
+                        1 + 6 * i,
+                    );
+                    mains[i] = s.branch;
+                    full = s.full;
+                }
             }
             if full {
                 owner = i;
@@ -125,8 +111,7 @@ pub(crate) fn run(
             system = front::push_system(system, a, &mut firsts, &mut figures);
         } else {
             let s = skip::skip(times, &owners, bytes, layout.packet_size, at, count, k);
-            let t = s.times;
-            times = t;
+            times = s.times;
             at = s.at;
             k = s.k;
         }

@@ -15,7 +15,7 @@ overflow_mul-depth-in-loop-i c =
 pub loop-i-preserved : goal.loop-i-preserved
 loop-i-preserved c =
     let l = c.loop-i in
-    record { within = omega arith; slots = l.invariant.slots; deep = l.invariant.deep; models = models_next _ _ _ _ _ l.invariant.models (omega arith) c.stream_model-m.ensures }
+    record { within = omega arith; slots = l.invariant.slots; deep = l.invariant.deep; models = models_next _ _ _ _ _ l.invariant.models (omega arith) c.stream_model.ensures }
 
 pub returns : goal.returns
 returns c = models_all _ _ _ _ (omega arith) c.loop-i.invariant.models

@@ -1,10 +1,6 @@
 -- `models` meets its contract. The invariant: the first i models are set. Assumes nothing.
-use Rattle.std.proofs.Common.{◌-◌}
 use Rattle.tstd.proofs.Streams.{ModelsTurn}
 use Rattle.tstd.proofs.stream.models.Given as goal
 
 abbrev pub invariant-loop-i : goal.invariant-loop-i
-invariant-loop-i l = ModelsTurn l.streams l.depth l.i l.models
-
-abbrev pub decreases-loop-i : goal.decreases-loop-i
-decreases-loop-i l = 8 - l.i
+invariant-loop-i l = ModelsTurn l.config.streams l.depth l.i l.models

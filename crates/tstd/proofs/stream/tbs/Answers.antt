@@ -10,7 +10,7 @@ loop-i-init c = record { within = omega arith; slots = search (length_of_map, ru
 pub loop-i-preserved : goal.loop-i-preserved
 loop-i-preserved c =
     let l = c.loop-i in
-    record { within = omega arith; slots = l.invariant.slots; tbs = tbs_next _ _ _ _ l.invariant.tbs (omega arith) c.new-t.ensures }
+    record { within = omega arith; slots = l.invariant.slots; tbs = tbs_next _ _ _ _ l.invariant.tbs (omega arith) c.new.ensures }
 
 pub returns : goal.returns
 returns c = tbs_all _ _ _ (omega arith) c.loop-i.invariant.tbs

@@ -1,10 +1,6 @@
 -- `tbs` meets its contract. The invariant: the first i transport buffers are set. Assumes nothing.
-use Rattle.std.proofs.Common.{◌-◌}
 use Rattle.tstd.proofs.Streams.{TbsTurn}
 use Rattle.tstd.proofs.stream.tbs.Given as goal
 
 abbrev pub invariant-loop-i : goal.invariant-loop-i
-invariant-loop-i l = TbsTurn l.streams l.i l.tbs
-
-abbrev pub decreases-loop-i : goal.decreases-loop-i
-decreases-loop-i l = 8 - l.i
+invariant-loop-i l = TbsTurn l.config.streams l.i l.tbs
