@@ -296,6 +296,13 @@ module _ (l : List ℕ) (c : TStdConfig) (times : List Float) (places : List ℕ
     pub passes : Passes replay_limits c lent (length l) size
     passes = fits_passes replay_limits c lent (length l) size passed
 
+    -- what is cleared lies in the work
+    pub times_fit : size.times ≤ length times
+    times_fit = rw passes.needed passes.covered.times
+
+    pub places_fit : size.places ≤ length places
+    places_fit = rw passes.needed passes.covered.places
+
     -- number 4
     pub layout_refused : {before : TStdReport} {a : Answer} → layout_of l ≡ Detected.Nothing → a ≡ refused_answer before Refusal.NoPacketLayout → Replayed l c times places row_len before a times places
     unfolding with_check with_layout keeps_work code_of checked

@@ -17,12 +17,8 @@ use report::TStdChainStats;
 fn stream_row(stream: TStdStream, tb: FluidFifo, b: MainBranch, v: VideoBranch) -> TStdChainStats
     ensures { result ≡ stream_row stream tb b v }
 {
-    let leak = v.leak;
-    let flow = leak.flow;
-    let model = stream.model;
-    let branch = model.branch;
-    match branch {
-        TStdBranch::Main { buffer_size } => TStdChainStats {
+    match stream.model.branch {
+        TStdBranch::Main { .. } => TStdChainStats {
             pid: stream.pid,
             peak_tb_bytes: ieee::to_u64(tb.peak),
             peak_main_bytes: ieee::to_u64(b.peak),
@@ -30,15 +26,11 @@ fn stream_row(stream: TStdStream, tb: FluidFifo, b: MainBranch, v: VideoBranch) 
             access_units: b.access_units,
             max_delay_seconds: b.max_delay_seconds,
         },
-        TStdBranch::Video {
-            rbx_bps,
-            mb_size,
-            eb_size,
-        } => TStdChainStats {
+        TStdBranch::Video { .. } => TStdChainStats {
             pid: stream.pid,
             peak_tb_bytes: ieee::to_u64(tb.peak),
-            peak_main_bytes: ieee::to_u64(leak.mb_peak),
-            peak_eb_bytes: ieee::to_u64(flow.eb_peak),
+            peak_main_bytes: ieee::to_u64(v.leak.mb_peak),
+            peak_eb_bytes: ieee::to_u64(v.leak.flow.eb_peak),
             access_units: v.access_units,
             max_delay_seconds: v.max_delay_seconds,
         },
@@ -49,12 +41,10 @@ fn system_row(config: TStdConfig, system: SystemChain) -> TStdChainStats
     requires { 0 < config.system_count }
     ensures { result ≡ system_row config system }
 {
-    let tb = system.tb;
-    let branch = system.branch;
     TStdChainStats {
         pid: config.system_pids[0],
-        peak_tb_bytes: ieee::to_u64(tb.peak),
-        peak_main_bytes: ieee::to_u64(branch.peak),
+        peak_tb_bytes: ieee::to_u64(system.tb.peak),
+        peak_main_bytes: ieee::to_u64(system.branch.peak),
         peak_eb_bytes: 0,
         access_units: 0,
         max_delay_seconds: 0.0,
@@ -71,24 +61,14 @@ pub(crate) fn figures(
     requires { config.stream_count ≤ 8 }
     ensures { result ≡ figures_of (rows_from 0 (streams_of config) tbs mains videos ++ system_rows config system) }
 {
-    let streams = config.streams;
     let n = config.stream_count;
-    let unused = TStdChainStats::new(0);
-    let mut rows = [unused; 9];
-    let mut i = 0;
-    while i < n {
-        let s = streams[i];
-        let f = tbs[i];
-        let b = mains[i];
-        let v = videos[i];
-        let row = stream_row(s, f, b, v);
-        rows[i] = row;
-        i += 1;
+    let mut rows = [TStdChainStats::new(0); 9];
+    for i in 0..n {
+        rows[i] = stream_row(config.streams[i], tbs[i], mains[i], videos[i]);
     }
     if config.system_count == 0 {
         return Figures { rows, count: n };
     }
-    let row = system_row(config, system);
-    rows[n] = row;
+    rows[n] = system_row(config, system);
     Figures { rows, count: n + 1 }
 }

@@ -1,7 +1,6 @@
 // The replay of a recording through the T-STD buffer model (H.222.0, 2.4.2; the Rust's `analyze_tstd`).
 #![tactic(auto)]
 
-mod clear;
 mod figures;
 mod front;
 mod moment;
@@ -40,19 +39,12 @@ fn accepted(config: TStdConfig, ran: Ran, samples: usize) -> Answer
 {
     let mut firsts = ran.firsts;
     let mut slots = ran.figures;
-    let system = ran.system;
-    let tb = system.tb;
     if 0 < config.system_count {
-        front::note_tb(tb, &mut firsts, &mut slots, 49);
+        front::note_tb(ran.system.tb, &mut firsts, &mut slots, 49);
     }
     let mut report = summary::report_of(config, firsts, slots);
-    let times = ran.times;
     report.pcr_samples = samples as u64;
-    report.modelled_seconds = modelled_seconds(times.first_time, times.last_time);
-    let tbs = ran.tbs;
-    let mains = ran.mains;
-    let videos = ran.videos;
-    let rows = figures::figures(config, tbs, mains, videos, system);
+    report.modelled_seconds = modelled_seconds(ran.times.first_time, ran.times.last_time);
     Answer {
         code: Code {
             number: 0,
@@ -60,7 +52,7 @@ fn accepted(config: TStdConfig, ran: Ran, samples: usize) -> Answer
             pid: 0,
         },
         report,
-        figures: rows,
+        figures: figures::figures(config, ran.tbs, ran.mains, ran.videos, ran.system),
     }
 }
 
@@ -69,11 +61,9 @@ fn queue_full(config: TStdConfig, ran: Ran, count: usize) -> Refusal
     requires { ran.owner < 8 }
     ensures { result ≡ queue_full config ran count }
 {
-    let i = ran.owner;
-    let stream = config.streams[i];
     Refusal::QueueFull {
-        packet: clear::least(ran.step, count) as u64,
-        pid: stream.pid,
+        packet: ran.step.min(count) as u64,
+        pid: config.streams[ran.owner].pid,
     }
 }
 
@@ -91,7 +81,7 @@ fn replay_at(
 {
     let count = bytes.len() / layout.packet_size;
     let from = 8 * config.queue_depth * config.stream_count;
-    let built = arrival_clock::build(
+    match arrival_clock::build(
         bytes,
         layout,
         count,
@@ -100,8 +90,7 @@ fn replay_at(
         times,
         from,
         places,
-    );
-    match built {
+    ) {
         ClockAnswer::Refused(x) => Answer::refused(report, x),
         ClockAnswer::Intervals(n) => {
             let ran = run::run(config, bytes, layout, count, times, places, n);
@@ -140,8 +129,8 @@ pub fn replay(
                 Detected::Nothing => Answer::refused(report, Refusal::NoPacketLayout),
                 Detected::Found(layout) => {
                     let answer = replay_at(bytes, layout, config, times, places, report);
-                    clear::clear_times(times, needed.times);
-                    clear::clear_places(places, needed.places);
+                    times[..needed.times].fill(0.0);
+                    places[..needed.places].fill(0);
                     answer
                 }
             }

@@ -12,7 +12,7 @@ overflow_mul-from-2 c = omega (arith, from_few _ _ _ _ _ c.requires)
 pub run-ran-requires : goal.run-ran-requires
 run-ran-requires c =
     let fits = c.requires in
-    let is = c.build-built.ensures in
+    let is = c.build.ensures in
     (some_intervals _ _ _ _ _ fits is _ c.in-Intervals.is, ready _ _ _ _ _ fits is _ c.in-Intervals.is)
 
 pub queue_full-requires : goal.queue_full-requires
@@ -26,7 +26,7 @@ shape_of-places-then-ran c = c.places-1.given
 
 pub returns-then-ran : goal.returns-then-ran
 returns-then-ran c =
-    queue_refused _ _ _ _ _ c.requires c.build-built.ensures _ c.in-Intervals.is
+    queue_refused _ _ _ _ _ c.requires c.build.ensures _ c.in-Intervals.is
     c.run-ran.ensures
     c.if-ran.true
     c.queue_full.ensures
@@ -34,17 +34,17 @@ returns-then-ran c =
 
 pub overflow_add-n : goal.overflow_add-n
 overflow_add-n c =
-    omega (arith, intervals_few _ _ _ _ _ c.requires c.build-built.ensures _ c.in-Intervals.is)
+    omega (arith, intervals_few _ _ _ _ _ c.requires c.build.ensures _ c.in-Intervals.is)
 
 pub returns-in-Refused : goal.returns-in-Refused
-returns-in-Refused c = clock_refused _ _ _ _ _ c.requires c.build-built.ensures c.in-Refused.is c.refused.ensures
+returns-in-Refused c = clock_refused _ _ _ _ _ c.requires c.build.ensures c.in-Refused.is c.refused.ensures
 
 pub shape_of-times-else-ran : goal.shape_of-times-else-ran
 shape_of-times-else-ran c = c.times-in-Intervals-1.given ∙ c.times-1.given
 
 pub returns-else-ran : goal.returns-else-ran
 returns-else-ran c =
-    passes_accepted _ _ _ _ _ c.requires c.build-built.ensures _ c.in-Intervals.is
+    passes_accepted _ _ _ _ _ c.requires c.build.ensures _ c.in-Intervals.is
     c.run-ran.ensures
     c.if-ran.false
     c.accepted.ensures

@@ -6,7 +6,7 @@ use Rattle.tstd.proofs.Rows.{row_read, filled_none, filled_next, filled_all, row
 use Rattle.tstd.proofs.figures.figures.Goals as goal
 
 pub loop-i-init : goal.loop-i-init
-loop-i-init c = filled_none _ _ _ _ _ c.requires _ (search (length_of_map, rules)) c.new-unused.ensures
+loop-i-init c = filled_none _ _ _ _ _ c.requires _ (search (length_of_map, rules)) c.new-rows.ensures
 
 pub loop-i-preserved : goal.loop-i-preserved
 loop-i-preserved c =
@@ -19,7 +19,7 @@ loop-i-preserved c =
     let t : i < length a.tbs = omega arith in
     let b : i < length a.mains = omega arith in
     let v : i < length a.videos = omega arith in
-    filled_next _ _ _ _ _ n _ _ _ c.loop-i-test.true (row_read a.tbs a.mains a.videos (get_or a.config.streams i unused_stream) i _ _ _ _ t b v c.stream_row-row.ensures) c.loop-i.invariant
+    filled_next _ _ _ _ _ n _ _ _ c.loop-i-test.true (row_read a.tbs a.mains a.videos (get_or a.config.streams i unused_stream) i _ _ _ _ t b v c.stream_row.ensures) c.loop-i.invariant
 
 pub returns-then-config-eq0 : goal.returns-then-config-eq0
 returns-then-config-eq0 c =
@@ -31,4 +31,4 @@ pub returns : goal.returns
 returns c =
     let n = c.requires in
     let l = c.loop-i in
-    figures_system _ _ _ _ _ (rows_count _ _ _ _ _ n l.invariant.size) n (filled_all _ _ _ _ _ n _ _ c.loop-i-test.false l.invariant) _ c.if-config-eq0.false c.system_row-row.ensures
+    figures_system _ _ _ _ _ (rows_count _ _ _ _ _ n l.invariant.size) n (filled_all _ _ _ _ _ n _ _ c.loop-i-test.false l.invariant) _ c.if-config-eq0.false c.system_row.ensures

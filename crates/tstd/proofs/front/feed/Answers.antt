@@ -2,4 +2,4 @@
 use Rattle.tstd.proofs.front.feed.Goals as goal
 
 pub returns : goal.returns
-returns c = rw (← c.payload-payload.ensures) c.feed.ensures
+returns c = rw (← c.payload.ensures) c.feed.ensures

