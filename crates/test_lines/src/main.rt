@@ -7,17 +7,10 @@ use error::{Code, Refusal};
 use report::{TStdChainStats, TStdReport, TStdViolation};
 use std::io;
 
-fn print(rt: &impl Print, text: &[u8], n: usize) -> io::Result<()> {
-    if n <= text.len() {
-        rt.write_all(&text[..n])?;
-    }
-    Ok(())
-}
-
 fn show(rt: &impl Print, answer: Answer) -> io::Result<()> {
     let mut out = [0u8; 8618];
     let n = lines::write(answer, &mut out);
-    print(rt, &out, n)
+    rt.write_all(&out[..n])
 }
 
 // In 12 bytes of dots, all of which are printed.
@@ -52,7 +45,7 @@ fn refusals(rt: &impl Print) -> io::Result<()> {
         Answer::refused(
             report,
             Refusal::QueueFull {
-                packet: 18446744073709551615,
+                packet: u64::MAX,
                 pid: 300,
             },
         ),
@@ -74,95 +67,76 @@ fn nine_packets(rt: &impl Print) -> io::Result<()> {
     show(rt, accepted(report, Figures { rows, count: 2 }))
 }
 
-fn add(report: TStdReport, v: TStdViolation) -> TStdReport {
-    let r = report.record(v);
-    r.report
+fn with_events(mut report: TStdReport, events: &[TStdViolation]) -> TStdReport {
+    for &event in events {
+        report = report.record(event).report;
+    }
+    report
 }
 
 // Kinds without a decode time.
 fn peaks() -> TStdReport {
-    let mut r = TStdReport::new();
-    r = add(
-        r,
-        TStdViolation::TbOverflow {
-            pid: 257,
-            peak_bytes: 600,
-        },
-    );
-    r = add(
-        r,
-        TStdViolation::TbBusyOverOneSecond {
-            pid: 258,
-            seconds: 1.5,
-        },
-    );
-    r = add(
-        r,
-        TStdViolation::MainOverflow {
-            pid: 259,
-            peak_bytes: 4000,
-            limit: 3584,
-        },
-    );
-    r = add(
-        r,
-        TStdViolation::MbOverflow {
-            pid: 261,
-            peak_bytes: 18446744073709551615,
-            limit: 10000,
-        },
-    );
-    r = add(
-        r,
-        TStdViolation::MbBusyOverOneSecond {
-            pid: 262,
-            seconds: 2.0000009,
-        },
-    );
-    add(r, TStdViolation::BsysOverflow { peak_bytes: 1537 })
+    with_events(
+        TStdReport::new(),
+        &[
+            TStdViolation::TbOverflow {
+                pid: 257,
+                peak_bytes: 600,
+            },
+            TStdViolation::TbBusyOverOneSecond {
+                pid: 258,
+                seconds: 1.5,
+            },
+            TStdViolation::MainOverflow {
+                pid: 259,
+                peak_bytes: 4000,
+                limit: 3584,
+            },
+            TStdViolation::MbOverflow {
+                pid: 261,
+                peak_bytes: u64::MAX,
+                limit: 10000,
+            },
+            TStdViolation::MbBusyOverOneSecond {
+                pid: 262,
+                seconds: 2.0000009,
+            },
+            TStdViolation::BsysOverflow { peak_bytes: 1537 },
+        ],
+    )
 }
 
 // Decode times of -1.5 and -0.5 microseconds, of either zero, and -200,000 s.
 fn times(report: TStdReport) -> TStdReport {
-    let mut r = add(
+    with_events(
         report,
-        TStdViolation::MainUnderflow {
-            pid: 260,
-            decode_time: -0.0000015,
-            missing_bytes: 7,
-        },
-    );
-    r = add(
-        r,
-        TStdViolation::EbUnderflow {
-            pid: 263,
-            decode_time: -0.0000005,
-            missing_bytes: 1,
-        },
-    );
-    r = add(
-        r,
-        TStdViolation::EbUnderflow {
-            pid: 264,
-            decode_time: -0.0,
-            missing_bytes: 2,
-        },
-    );
-    r = add(
-        r,
-        TStdViolation::EbUnderflow {
-            pid: 265,
-            decode_time: 0.0,
-            missing_bytes: 3,
-        },
-    );
-    add(
-        r,
-        TStdViolation::DelayOverOneSecond {
-            pid: 8191,
-            decode_time: -200000.0,
-            delay_seconds: 1.25,
-        },
+        &[
+            TStdViolation::MainUnderflow {
+                pid: 260,
+                decode_time: -0.0000015,
+                missing_bytes: 7,
+            },
+            TStdViolation::EbUnderflow {
+                pid: 263,
+                decode_time: -0.0000005,
+                missing_bytes: 1,
+            },
+            TStdViolation::EbUnderflow {
+                pid: 264,
+                decode_time: -0.0,
+                missing_bytes: 2,
+            },
+            TStdViolation::EbUnderflow {
+                pid: 265,
+                decode_time: 0.0,
+                missing_bytes: 3,
+            },
+            TStdViolation::DelayOverOneSecond {
+                pid: 8191,
+                decode_time: -200000.0,
+                delay_seconds: 1.25,
+            },
+        ],
     )
 }
 
