@@ -24,6 +24,7 @@ pub struct Answer {
 
 impl Figures {
     // No chain. Ruled out: a record in use; an unused record that is not empty.
+    #[tactic(auto, unfolding(crate::specs::Answer::figures_of, report::specs::Report::empty_stats))]
     pub fn new() -> Figures
         ensures { result ≡ figures_of [] }
     {
@@ -37,6 +38,7 @@ impl Figures {
 
 impl Answer {
     // The report as it came, and no figures. Ruled out: a cleared report; figures of a refused recording.
+    #[tactic(auto, unfolding(crate::specs::Answer::refused_answer))]
     pub fn refused(report: TStdReport, refusal: Refusal) -> Answer
         ensures { result ≡ refused_answer report refusal }
     {
