@@ -1,4 +1,5 @@
 -- What a caller of `arrive` uses: the answer with the scanner, whole and by its parts, where that keeps an open unit. Assumes nothing.
+use Rattle.std.specs.Prelude.{Option, Some, None}
 use mathlib.Core.Path.{◌≡◌, refl, sym, ◌∙◌, ap}
 use mathlib.Core.Bool.{Bool, true, false, cond}
 use mathlib.Core.List.{List}
@@ -11,7 +12,6 @@ use borrow.Author.Tests.{eq-eqb, ne_eqb, eqb-true}
 use Rattle.ieee.specs.Binary64.{ -∞}
 use Rattle.clock.specs.Timestamp.{timestamp_modulus}
 use Rattle.packet.specs.Packet.{payload_of}
-use Rattle.scanner.specs.declared.DecodeTs.{DecodeTs}
 use Rattle.scanner.specs.declared.Runs.{Runs}
 use Rattle.scanner.specs.declared.Fed.{Fed}
 use Rattle.scanner.specs.declared.PesScanner.{PesScanner}
@@ -36,9 +36,9 @@ Extendable i = i.pcr_ref_90k < 2 ^ 64 - timestamp_modulus
 pub within_extendable : (i : RateInterval) → IntervalWithin i → Extendable i
 within_extendable i w = omega (arith, reference_within i 0 w)
 
-pub stamp_answer_lem : (i : RateInterval) (ts : DecodeTs) → Extendable i → stamp_answer i ts ≡ stamp_time i ts
-stamp_answer_lem i DecodeTs.Absent h = refl
-stamp_answer_lem i (DecodeTs.At raw) h = decode_time_is i raw h
+pub stamp_answer_lem : (i : RateInterval) (ts : Option ℕ) → Extendable i → stamp_answer i ts ≡ stamp_time i ts
+stamp_answer_lem i None h = refl
+stamp_answer_lem i (Some raw) h = decode_time_is i raw h
 
 -- A packet of a stream whose scanner keeps the open unit o.
 module _ (t : Transport) (o : Open) (keeps : t.scanner ≡ scanner_of o) (w : List ℕ) (start : ℕ) (bit : Bool) (t0 u : Float) (i : RateInterval) where

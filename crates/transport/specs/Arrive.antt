@@ -1,10 +1,9 @@
 -- What a packet delivers from the transport buffer TBn: its header and adaptation bytes, then each run of its payload go through the buffer
 -- (the Rust's loop over packets in `analyze_tstd`, for one stream).
-use Rattle.std.specs.Prelude.{ℕ, ◌+◌, Bool, cond, eqb, leb, pos, Float}
+use Rattle.std.specs.Prelude.{ℕ, ◌+◌, Bool, cond, eqb, leb, pos, Float, Option, Some, None}
 use Rattle.std.specs.Float.{binary64}
 use Rattle.std.specs.Float.Ieee.{of_int}
 use Rattle.ieee.specs.Binary64.{◌⊕◌, ◌⊖◌, ◌⊗◌, ◌⊘◌, -∞, 0f, 188f}
-use Rattle.scanner.specs.declared.DecodeTs.{DecodeTs}
 use Rattle.scanner.specs.declared.Runs.{Runs}
 use Rattle.arrival.specs.declared.RateInterval.{RateInterval}
 use Rattle.arrival.specs.Times.{decode_time}
@@ -35,9 +34,9 @@ through tb from to len =
     })
 
 -- the decode time of a stamp by the interval of the packet's end; -∞ for none
-abbrev pub stamp_time : RateInterval → DecodeTs → Float
-stamp_time i DecodeTs.Absent = -∞
-stamp_time i (DecodeTs.At raw) = decode_time i raw
+abbrev pub stamp_time : RateInterval → Option ℕ → Float
+stamp_time i None = -∞
+stamp_time i (Some raw) = decode_time i raw
 
 abbrev pub nothing : Delivered
 nothing = record { decode_time = -∞; first_input_time = 0f; head = no_run; rest = no_run; body = no_run }

@@ -1,8 +1,7 @@
 -- A stream's transport buffer with its scanner: both behind a packet, and what the packet delivers.
-use Rattle.std.specs.Prelude.{ℕ, Bool, cond, List, eqb, Float}
+use Rattle.std.specs.Prelude.{ℕ, Bool, cond, List, eqb, Float, Option, Some, None}
 use Rattle.ieee.specs.Binary64.{◌⊕◌, ◌⊗◌, ◌⊘◌, -∞, 188f}
 use Rattle.packet.specs.Packet.{payload_of}
-use Rattle.scanner.specs.declared.DecodeTs.{DecodeTs}
 use Rattle.scanner.specs.declared.PesScanner.{PesScanner}
 use Rattle.scanner.specs.State.{open_of, fed_of}
 use Rattle.arrival.specs.declared.RateInterval.{RateInterval}
@@ -25,9 +24,9 @@ abbrev pub byte_time : Float → Float → ℕ → Float
 byte_time t0 span k = t0 ⊕ span ⊗ float k ⊘ 188f
 
 -- `stamp_time` with an answer for every interval; the two are equal under document 01's limits
-abbrev pub stamp_answer : RateInterval → DecodeTs → Float
-stamp_answer i DecodeTs.Absent = -∞
-stamp_answer i (DecodeTs.At raw) = decode_time_or_zero i raw
+abbrev pub stamp_answer : RateInterval → Option ℕ → Float
+stamp_answer i None = -∞
+stamp_answer i (Some raw) = decode_time_or_zero i raw
 
 -- the answer of `arrive` with the scanner
 abbrev pub arrived_with : PesScanner → Arrived → Passed

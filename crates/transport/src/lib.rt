@@ -3,7 +3,6 @@
 #![tactic(auto)]
 
 ghost use Rattle.std.specs.Prelude.{◌≡◌, ◌+◌, ◌^◌, ◌<◌};
-ghost use Rattle.ieee.specs.Binary64.{ -∞};
 ghost use Rattle.scanner.specs.State.{only_body};
 ghost use Rattle.transport.specs.Arrive.{through, nothing, no_run, delivery, fits_in, arrive_in};
 ghost use Rattle.transport.specs.Transport.{byte_time, stamp_answer};
@@ -11,7 +10,7 @@ ghost use Rattle.transport.specs.Transport.{byte_time, stamp_answer};
 use arrival::RateInterval;
 use branch::{Delivered, Run};
 use fifo::FluidFifo;
-use scanner::{DecodeTs, Runs};
+use scanner::Runs;
 
 // The transport buffer behind a packet, and what the packet delivers.
 #[derive(Clone, Copy)]
@@ -25,13 +24,6 @@ pub struct Arrived {
 struct Through {
     tb: FluidFifo,
     run: Run,
-}
-
-// Rust's `f64::NEG_INFINITY`, which a constant cannot hold here.
-fn neg_infinity() -> f64
-    ensures { result ≡ -∞ }
-{
-    -1.0 / 0.0
 }
 
 // When byte k of a packet comes: the Rust's `frac`.
@@ -57,7 +49,7 @@ pub fn nothing_delivered() -> Delivered
 {
     let none = no_run();
     Delivered {
-        decode_time: neg_infinity(),
+        decode_time: f64::NEG_INFINITY,
         first_input_time: 0.0,
         head: none,
         rest: none,
@@ -65,16 +57,17 @@ pub fn nothing_delivered() -> Delivered
     }
 }
 
-fn stamp_time(interval: RateInterval, stamp: DecodeTs) -> f64
+fn stamp_time(interval: RateInterval, stamp: Option<u64>) -> f64
     ensures { result ≡ stamp_answer interval stamp }
 {
     match stamp {
-        DecodeTs::Absent => neg_infinity(),
-        DecodeTs::At(raw) => interval.decode_time(raw),
+        Some(raw) => interval.decode_time(raw),
+        None => f64::NEG_INFINITY,
     }
 }
 
 // A run of len bytes goes through the transport buffer; one of no bytes is none.
+#[tactic(auto, unfolding(crate::specs::Arrive::through))]
 fn push_run(tb: FluidFifo, from: f64, to: f64, len: usize) -> Through
     ensures { result ≡ through tb from to len }
 {
@@ -83,9 +76,8 @@ fn push_run(tb: FluidFifo, from: f64, to: f64, len: usize) -> Through
     }
     let bytes = ieee::as_float(len as u64);
     let p = tb.push(from, to, bytes);
-    let after = p.fifo;
     Through {
-        tb: after,
+        tb: p.fifo,
         run: Run {
             t0: p.start,
             t1: p.end,
@@ -95,21 +87,14 @@ fn push_run(tb: FluidFifo, from: f64, to: f64, len: usize) -> Through
 }
 
 // The runs lie in the packet, whose payload begins at `payload_start`. No sum is made, since it could wrap.
+#[tactic(auto, unfolding(crate::specs::Arrive::fits_in))]
 fn fits(runs: Runs, payload_start: usize) -> bool
     ensures { result ≡ fits_in payload_start runs }
 {
-    if 188 < payload_start {
-        return false;
-    }
-    let behind_header = 188 - payload_start;
-    if behind_header < runs.head {
-        return false;
-    }
-    let behind_head = behind_header - runs.head;
-    if behind_head < runs.rest {
-        return false;
-    }
-    runs.body <= behind_head - runs.rest
+    payload_start <= 188
+        && runs.head <= 188 - payload_start
+        && runs.rest <= 188 - payload_start - runs.head
+        && runs.body <= 188 - payload_start - runs.head - runs.rest
 }
 
 // The payload is content alone, or has no runs. `begin` is when it begins.
@@ -128,13 +113,16 @@ fn plain(
 {
     let end = byte_time(t0, span, payload_start + body);
     let x = push_run(header, begin, end, body);
-    let tb = x.tb;
-    let run = x.run;
-    let mut delivered = nothing_delivered();
-    delivered.decode_time = decode;
-    delivered.first_input_time = begin;
-    delivered.body = run;
-    Arrived { tb, delivered }
+    let delivered = Delivered {
+        decode_time: decode,
+        first_input_time: begin,
+        body: x.run,
+        ..nothing_delivered()
+    };
+    Arrived {
+        tb: x.tb,
+        delivered,
+    }
 }
 
 // The payload has header bytes.
@@ -157,22 +145,16 @@ fn headed(
     let rest_end = byte_time(t0, span, c);
     let body_end = byte_time(t0, span, c + runs.body);
     let x = push_run(header, begin, head_end, runs.head);
-    let behind_head = x.tb;
-    let y = push_run(behind_head, head_end, rest_end, runs.rest);
-    let behind_rest = y.tb;
-    let z = push_run(behind_rest, rest_end, body_end, runs.body);
-    let tb = z.tb;
-    let head = x.run;
-    let rest = y.run;
-    let body = z.run;
+    let y = push_run(x.tb, head_end, rest_end, runs.rest);
+    let z = push_run(y.tb, rest_end, body_end, runs.body);
     Arrived {
-        tb,
+        tb: z.tb,
         delivered: Delivered {
             decode_time: decode,
             first_input_time: begin,
-            head,
-            rest,
-            body,
+            head: x.run,
+            rest: y.run,
+            body: z.run,
         },
     }
 }
@@ -197,19 +179,17 @@ pub fn arrive(
         };
     }
     if payload_start == 188 {
-        let p = tb.push(t0, u, 188.0);
-        let after = p.fifo;
         return Arrived {
-            tb: after,
+            tb: tb.push(t0, u, 188.0).fifo,
             delivered: nothing_delivered(),
         };
     }
     let span = u - t0;
     let begin = byte_time(t0, span, payload_start);
-    let p = tb.push(t0, begin, ieee::as_float(payload_start as u64));
-    let header = p.fifo;
-    let stamp = runs.decode_ts;
-    let decode = stamp_time(interval, stamp);
+    let header = tb
+        .push(t0, begin, ieee::as_float(payload_start as u64))
+        .fifo;
+    let decode = stamp_time(interval, runs.decode_ts);
     if runs.head + runs.rest == 0 {
         return plain(header, runs.body, payload_start, begin, t0, span, decode);
     }

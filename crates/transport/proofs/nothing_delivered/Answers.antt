@@ -1,5 +1,7 @@
 -- `transport::nothing_delivered` meets its contract. Assumes nothing.
+use lib.Ieee.{of_bits}
 use Rattle.transport.proofs.nothing_delivered.Goals as goal
 
 pub returns : goal.returns
-returns c = rw (c.no_run-none.ensures, c.neg_infinity.ensures)
+unfolding of_bits
+returns c = rw c.no_run-none.ensures

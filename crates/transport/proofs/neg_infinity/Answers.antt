@@ -1,8 +1,0 @@
--- `transport::neg_infinity` meets its contract. Assumes nothing.
-use mathlib.Core.Path.{refl}
-use lib.Ieee.{of_bits, neg, div}
-use Rattle.transport.proofs.neg_infinity.Goals as goal
-
-pub returns : goal.returns
-unfolding of_bits neg div
-returns c = refl
