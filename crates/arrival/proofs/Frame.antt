@@ -1,5 +1,5 @@
 -- The pass writes only where its intervals stand: 3 * depth floats from `from` on, and the first 2 * depth numbers.
-use Rattle.std.proofs.Common.{◌≡◌, ℕ, ◌+◌, ◌-◌, ◌*◌, ◌<◌, ◌≤◌, Bool, true, false, cond, ◌&&◌, ◌||◌, eqb, leb, List, [], ◌∷◌, length, take, drop, set, refl, ◌∙◌, arith, length-set, drop-set-lt, Result, Ok, Err, is_some}
+use Rattle.std.proofs.Common.{◌≡◌, ℕ, ◌+◌, ◌-◌, ◌*◌, ◌<◌, ◌≤◌, Bool, true, false, cond, ◌&&◌, ◌||◌, eqb, leb, List, [], ◌∷◌, length, take, drop, set, refl, ◌∙◌, true≢false, leb-false, arith, length-set, drop-set-lt, Result, Ok, Err, is_some}
 use lib.Seq.{take-set-le}
 use lib.Ieee.{Float}
 use Rattle.error.specs.declared.Refusal.{Refusal}
@@ -11,7 +11,6 @@ use Rattle.arrival.specs.ArrivalClock.{anchor_at, close}
 use Rattle.arrival.specs.Samples.{Seen, field_on, seen_in}
 use Rattle.arrival.specs.Work.{holds, never}
 use Rattle.arrival.specs.Pass.{Building, store_times, store_places, counted, closed_by, in_range, take_sample, take_samples, Passing, building_of, pass_seen, pass_packet, pass_packets}
-use Rattle.arrival.proofs.Taking.{below_depth}
 
 -- two stores side by side
 module _ {A : Type 0} (n : ℕ) (l : List A) (p : ℕ) (a b : A) where
@@ -20,6 +19,11 @@ module _ {A : Type 0} (n : ℕ) (l : List A) (p : ℕ) (a b : A) where
 
   drop_pair : p + 1 < n → drop n (set (set l p a) (p + 1) b) ≡ drop n l
   drop_pair h = drop-set-lt n (set l p a) (p + 1) b h ∙ drop-set-lt n l p a (omega arith)
+
+-- neither refused nor full
+below_depth : (refused : Bool) (depth n : ℕ) → (refused || leb depth n) ≡ false → n < depth
+below_depth false depth n h = leb-false depth n h
+below_depth true depth n h = absurd (true≢false h)
 
 module _ (depth from : ℕ) where
   -- w' has the work of w but where the intervals stand

@@ -3,8 +3,6 @@
 pub mod Cursors
 pub mod Covering
 pub mod Stamps
-pub mod Close
-pub mod Taking
 pub mod Passing
 pub mod Build
 pub mod Packets

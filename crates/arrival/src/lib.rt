@@ -39,7 +39,7 @@ pub struct Closed {
 }
 
 // A refusal without its sample: with it the padding of `Refusal` would be copied for each sample, which costs 4 ns.
-#[derive(Clone, Copy)]
+#[derive(Clone, Copy, Debug, PartialEq, Eq)]
 pub enum ClockFault {
     DiscontinuityBeforeRate,
     RepeatedPcr,
@@ -94,6 +94,7 @@ pub struct PacketArrival {
 // Behind every position: there is no next interval.
 const NEVER: u64 = u64::MAX;
 
+#[tactic(auto, unfolding(crate::specs::Work::holds))]
 fn holds_intervals(n: usize, times: &[f64], from: usize, places: &[u64]) -> bool
     ensures { result ≡ holds n times.now from places.now }
 {
@@ -143,6 +144,7 @@ impl Anchor {
         }
     }
 
+    #[tactic(auto, unfolding(crate::specs::ArrivalClock::close))]
     fn close(self, n: u64, sample: Sample) -> Result<Closed, Refusal>
         requires { (sample.ticks < 2 ^ 63) × (self.extended < 2 ^ 63) }
         ensures { result ≡ close n self sample }
@@ -183,6 +185,7 @@ impl Anchor {
     }
 }
 
+#[tactic(auto, unfolding(crate::specs::Pass::store_times, crate::specs::Pass::store_places))]
 fn store_interval(
     interval: RateInterval,
     times: &mut [f64],
@@ -247,6 +250,7 @@ impl ClockBuild {
         }
     }
 
+    #[tactic(auto, unfolding(crate::specs::Pass::in_range))]
     fn in_range(self, sample: Sample) -> bool
         ensures { result ≡ in_range self sample }
     {
@@ -255,6 +259,7 @@ impl ClockBuild {
             & (self.anchor.extended < 0x8000_0000_0000_0000)
     }
 
+    #[tactic(auto, unfolding(crate::specs::Pass::closed_by))]
     fn closed(
         self,
         closed: Result<Closed, Refusal>,
@@ -285,6 +290,7 @@ impl ClockBuild {
     }
 
     // Ruled out: a sample behind a refusal that is not counted; an interval stored one place too far.
+    #[tactic(auto, unfolding(crate::specs::Pass::take_sample, crate::specs::Pass::in_range, crate::specs::Work::holds))]
     pub fn sample(
         self,
         sample: Sample,
@@ -319,6 +325,7 @@ impl ClockBuild {
     }
 
     // Ruled out: number 9 where there are more samples than the depth; the count of samples for that of intervals.
+    #[tactic(auto, unfolding(crate::specs::Pass::answer_of))]
     pub fn answer(self, depth: usize) -> Result<usize, Refusal>
         ensures { result ≡ answer_of depth self }
     {
@@ -350,6 +357,7 @@ impl ClockPass {
     }
 
     // A packet that does not parse, of another PID, or without an adaptation field. Ruled out: a packet not counted as 188 bytes; a mark dropped.
+    #[tactic(auto, unfolding(crate::specs::Pass::other_packet))]
     pub fn other(self) -> ClockPass
         ensures { result ≡ other_packet self }
     {
@@ -363,6 +371,7 @@ impl ClockPass {
     }
 
     // A packet on the PCR PID, by its adaptation field. Ruled out: a mark that does not reach the PCR of its own packet; one that reaches the second PCR.
+    #[tactic(auto, unfolding(crate::specs::Pass::pass_seen, crate::specs::Pass::take_samples, crate::specs::Samples::seen_pcr))]
     pub fn field(
         self,
         discontinuity_indicator: bool,
@@ -401,6 +410,7 @@ impl ClockPass {
     }
 
     // Ruled out: the clock of another PID; a stop at a packet that does not parse.
+    #[tactic(auto, unfolding(crate::specs::Pass::pass_packet, crate::specs::Pass::pass_seen, crate::specs::Pass::take_samples, crate::specs::Pass::other_packet, crate::specs::Samples::field_on, crate::specs::Samples::seen_in))]
     pub fn packet(
         self,
         parsed: Result<TsPacket, TsError>,
@@ -447,6 +457,7 @@ impl RateInterval {
         }
     }
 
+    #[tactic(auto, unfolding(crate::specs::Work::interval_in))]
     fn read(times: &[f64], from: usize, places: &[u64], index: usize) -> RateInterval
         requires { (from + 3 * index + 2 < length times.now) × (2 * index + 1 < length places.now) }
         ensures { result ≡ interval_in times.now from places.now index }
@@ -463,6 +474,7 @@ impl RateInterval {
     }
 
     // Ruled out: the time by the position and not by the bytes from the start; a sum before the start.
+    #[tactic(auto, unfolding(crate::specs::Times::time_of))]
     pub fn time_of(self, pos: u64) -> f64
         ensures { result ≡ time_of self pos }
     {
@@ -473,6 +485,7 @@ impl RateInterval {
     }
 
     // Ruled out: the stamp in its first epoch; the offset added before the division.
+    #[tactic(auto, unfolding(crate::specs::Times::decode_time, crate::specs::Times::decode_time_or_zero, clock::specs::Timestamp::extend_near))]
     pub fn decode_time(self, raw_90k: u64) -> f64
         ensures { result ≡ decode_time_or_zero self raw_90k }
     {
@@ -495,6 +508,7 @@ impl Cursor {
     }
 
     // Ruled out: an interval past the count; the interval before.
+    #[tactic(auto, unfolding(crate::specs::Work::cursor_at, crate::specs::Work::holds))]
     pub fn at(times: &[f64], from: usize, places: &[u64], count: usize, index: usize) -> Cursor
         ensures { result ≡ cursor_at times.now from places.now count index }
     {
@@ -518,6 +532,7 @@ impl Cursor {
     }
 
     // Ruled out: a step to an interval that begins behind the position; a stop before one that begins at it.
+    #[tactic(auto, using(crate::proofs::Cursors::advance_last, crate::proofs::Cursors::advance_here, crate::proofs::Cursors::advance_on, crate::proofs::Cursors::cursor_index))]
     pub fn advance(
         self,
         times: &[f64],
@@ -539,6 +554,7 @@ impl Cursor {
 
 impl PacketArrival {
     // Before the first packet. Ruled out: an interval that begins behind byte 0 though one begins there; a first packet that begins at byte 188.
+    #[tactic(auto, unfolding(crate::specs::Work::start_of_arrival))]
     pub fn start(times: &[f64], from: usize, places: &[u64], count: usize) -> PacketArrival
         ensures { result ≡ start_of_arrival times.now from places.now count }
     {
@@ -554,6 +570,7 @@ impl PacketArrival {
     }
 
     // Ruled out: the interval of the packet's start; a start other than the last packet's end.
+    #[tactic(auto, unfolding(crate::specs::Work::next_arrival))]
     pub fn next(self, times: &[f64], from: usize, places: &[u64], count: usize) -> PacketArrival
         ensures { result ≡ next_arrival times.now from places.now count self }
     {
