@@ -9,7 +9,8 @@ use native.Mathlib.Omega.{arith}
 use lib.ListN.{length, take, get_or}
 use lib.Seq.{take-suc, take_all, length-take-le}
 use Rattle.lines.specs.Text.{each}
-use Rattle.lines.specs.Written.{Written}
+use Rattle.lines.specs.declared.text.Text.{Text}
+use Rattle.lines.specs.Written.{Appends}
 use Rattle.lines.proofs.Written.{no_longer, same_text, behind}
 
 -- as many as the list has
@@ -28,10 +29,10 @@ module _ {A : Type 0} (f : A → List ℕ) where
   each_one x = append-nil (f x)
 
   -- each line has k bytes at most
-  module _ (k : ℕ) (l : List A) (i : ℕ) {at next₁ : ℕ} {out out₁ : List ℕ} (v : Written (i * k) (each f (take i l)) out at out₁ next₁) where
-    pub next_line : (d : A) {next₂ : ℕ} {out₂ : List ℕ} → i < length l → Written k (f (get_or l i d)) out₁ next₁ out₂ next₂ → Written ((i + 1) * k) (each f (take (i + 1) l)) out at out₂ next₂
+  module _ (k : ℕ) (l : List A) (i : ℕ) {x y : Text} (v : Appends (i * k) (each f (take i l)) x y) where
+    pub next_line : (d : A) {z : Text} → i < length l → Appends k (f (get_or l i d)) y z → Appends ((i + 1) * k) (each f (take (i + 1) l)) x z
     next_line d h w =
-        let longer : Written (i * k + k) (each f (take (i + 1) l)) out at _ _ =
+        let longer : Appends (i * k + k) (each f (take (i + 1) l)) x _ =
         same_text
         (behind v w)
         (sym
@@ -39,12 +40,12 @@ module _ {A : Type 0} (f : A → List ℕ) where
         ∙ ap (each f) (take-suc l i d h)
         ∙ each_append (take i l) (get_or l i d ∷ [])
         ∙ ap (λ (t : List ℕ). each f (take i l) ++ t) (each_one (get_or l i d)))) in
-        no_longer longer ((i + 1) * k) (omega (arith, longer.short, ap (λ (j : ℕ). j * k) (add-one i) ∙ suc-mul i k))
+        no_longer longer ((i + 1) * k) (omega (arith, longer.written.short, ap (λ (j : ℕ). j * k) (add-one i) ∙ suc-mul i k))
 
     -- the list is as much of xs as is in use
-    pub all_lines : (c n : ℕ) (xs : List A) → length xs ≡ c → l ≡ take (min n c) xs → i ≡ length l → Written (c * k) (each f (take n xs)) out at out₁ next₁
+    pub all_lines : (c n : ℕ) (xs : List A) → length xs ≡ c → l ≡ take (min n c) xs → i ≡ length l → Appends (c * k) (each f (take n xs)) x y
     all_lines c n xs all same e =
         let h : i ≤ c = omega (arith, e, ap length same, length-take-le (min n c) xs) in
         same_text
-        (no_longer v (c * k) (le_trans v.short (mul-le-mul_right k h)))
+        (no_longer v (c * k) (le_trans v.written.short (mul-le-mul_right k h)))
         (ap (each f) (take_all i l (omega arith) ∙ same ∙ ap (λ (m : ℕ). take (min n m) xs) (sym all) ∙ take_min_by n xs (dec_le _ _)))

@@ -1,5 +1,5 @@
--- Laws of `Written`: nothing and one byte are written, two texts written one behind the other are one text, and a text written from
--- the start of a list fills it. Assumes nothing.
+-- Laws of `Written` and `Appends`: two texts written one behind the other are one text, and a text written from the start of a list
+-- fills it. Assumes nothing.
 use mathlib.Core.Path.{◌≡◌, refl, sym, ap, ◌∙◌, subst}
 use mathlib.Core.List.{List, [], ◌∷◌, ◌++◌}
 use Prim.Native.Nat.{ℕ, suc, ◌+◌, ◌≤◌, ◌<◌, min}
@@ -9,7 +9,8 @@ use native.Mathlib.Omega.{arith}
 use lib.ListN.{length, take, drop, get_or, set, length-append, length-set}
 use lib.Seq.{sets, length-sets, set_out, drop-nil, take-suc, take_all, take-append_seam}
 use native.Mathlib.Numerals.{add-one}
-use Rattle.lines.specs.Written.{Written, filled}
+use Rattle.lines.specs.declared.text.Text.{Text}
+use Rattle.lines.specs.Written.{Written, filled, Appends}
 
 sets_append : (l : List ℕ) (i : ℕ) (a b : List ℕ) → sets l i (a ++ b) ≡ sets (sets l i a) (i + length a) b
 sets_append l i [] b = ap (λ (k : ℕ). sets l k b) (sym (add-zero i))
@@ -38,7 +39,7 @@ from_start [] t = sets_past [] 0 t (omega arith) ∙ sym (drop-nil (length t))
 from_start (x ∷ xs) [] = refl
 from_start (x ∷ xs) (b ∷ t) = sets_cons b xs 0 t ∙ ap (λ (l : List ℕ). b ∷ l) (from_start xs t)
 
-pub fills : {most next : ℕ} (t out after : List ℕ) → Written most t out 0 after next → (next ≡ min (length t) (length out)) × (after ≡ filled out t) × (length t ≤ most)
+fills : {most next : ℕ} (t out after : List ℕ) → Written most t out 0 after next → (next ≡ min (length t) (length out)) × (after ≡ filled out t) × (length t ≤ most)
 unfolding filled
 fills t out after w = (omega (arith, w.place), w.bytes ∙ from_start out t, w.short)
 
@@ -47,32 +48,13 @@ pub whole : (t out : List ℕ) → length t ≤ length out → take (length t) (
 unfolding filled
 whole t out h = rw (take_all (length out) t h) (take-append_seam t (drop (length t) out))
 
-pub nothing : (out : List ℕ) (at : ℕ) → at ≤ length out → Written 0 [] out at out at
-nothing out at h = record { short = omega arith; bytes = refl; place = omega arith }
-
-pub stored : (out : List ℕ) (at b : ℕ) → at < length out → Written 1 (b ∷ []) out at (set out at b) (at + 1)
-stored out at b h = record { short = omega arith; bytes = refl; place = omega arith }
-
-pub no_room : (out : List ℕ) (at b : ℕ) → length out ≤ at → Written 1 (b ∷ []) out at out (length out)
-no_room out at b h = record { short = omega arith; bytes = sym (set_out out at b h); place = omega arith }
-
+-- one text behind the other
 module _ {m at next₁ : ℕ} {a out out₁ : List ℕ} (v : Written m a out at out₁ next₁) where
-  pub kept_length : length out₁ ≡ length out
+  kept_length : length out₁ ≡ length out
   kept_length = ap length v.bytes ∙ length-sets out at a
 
-  pub within : next₁ ≤ length out₁
-  within = omega (arith, v.place, kept_length)
-
-  -- another bound, and the same text told otherwise
-  pub no_longer : (n : ℕ) → length a ≤ n → Written n a out at out₁ next₁
-  no_longer n h = record { short = h; bytes = v.bytes; place = v.place }
-
-  pub same_text : {b : List ℕ} → a ≡ b → Written m b out at out₁ next₁
-  same_text e = subst (λ (t : List ℕ). Written m t out at out₁ next₁) e v
-
-  -- one text behind the other
-  pub behind : {n next₂ : ℕ} {b out₂ : List ℕ} → Written n b out₁ next₁ out₂ next₂ → Written (m + n) (a ++ b) out at out₂ next₂
-  behind {b = b} w =
+  written_behind : {n next₂ : ℕ} {b out₂ : List ℕ} → Written n b out₁ next₁ out₂ next₂ → Written (m + n) (a ++ b) out at out₂ next₂
+  written_behind {b = b} w =
       record {
         short = simp length-append (omega (arith, v.short, w.short));
         bytes =
@@ -84,10 +66,32 @@ module _ {m at next₁ : ℕ} {a out out₁ : List ℕ} (v : Written m a out at 
         place = simp length-append (omega (arith, v.place, w.place, kept_length));
       }
 
+-- ---- of the memory that a text holds
+pub nothing : (x : Text) → Appends 0 [] x x
+nothing x = record { written = record { short = omega arith; bytes = refl; place = omega (arith, x.within) }; same_reference = refl }
+
+module _ {m : ℕ} {a : List ℕ} {x y : Text} (v : Appends m a x y) where
+  -- another bound, and the same text told otherwise
+  pub no_longer : (n : ℕ) → length a ≤ n → Appends n a x y
+  no_longer n h = record { written = record { short = h; bytes = v.written.bytes; place = v.written.place }; same_reference = v.same_reference }
+
+  pub same_text : {b : List ℕ} → a ≡ b → Appends m b x y
+  same_text e = subst (λ (t : List ℕ). Appends m t x y) e v
+
+  pub behind : {n : ℕ} {b : List ℕ} {z : Text} → Appends n b y z → Appends (m + n) (a ++ b) x z
+  behind w = record { written = written_behind v.written w.written; same_reference = w.same_reference ∙ v.same_reference }
+
+-- what is left where the memory comes back, when it was written from its start on
+pub left : {most : ℕ} {t after : List ℕ} {x y : Text} → x.at ≡ 0 → Appends most t x y → after ≡ y.out.now
+    → (y.at ≡ min (length t) (length x.out.now)) × (after ≡ filled x.out.now t) × (length t ≤ most)
+left {most} {t} {x = x} {y = y} start v back =
+    let w = fills t x.out.now y.out.now (subst (λ (i : ℕ). Written most t x.out.now i y.out.now y.at) start v.written) in
+    (w.0, back ∙ w.1, w.2)
+
 -- a text byte by byte
-module _ (text : List ℕ) (i : ℕ) {at next₁ : ℕ} {out out₁ : List ℕ} (v : Written i (take i text) out at out₁ next₁) where
-  pub next_byte : {next₂ : ℕ} {out₂ : List ℕ} → i < length text → Written 1 (get_or text i 0 ∷ []) out₁ next₁ out₂ next₂ → Written (i + 1) (take (i + 1) text) out at out₂ next₂
+module _ (text : List ℕ) (i : ℕ) {x y : Text} (v : Appends i (take i text) x y) where
+  pub next_byte : {z : Text} → i < length text → Appends 1 (get_or text i 0 ∷ []) y z → Appends (i + 1) (take (i + 1) text) x z
   next_byte h w = same_text (behind v w) (sym (ap (λ (k : ℕ). take k text) (add-one i) ∙ take-suc text i 0 h))
 
-  pub whole_text : i ≡ length text → Written (length text) text out at out₁ next₁
+  pub whole_text : i ≡ length text → Appends (length text) text x y
   whole_text e = no_longer (same_text v (take_all i text (omega arith))) (length text) (omega arith)

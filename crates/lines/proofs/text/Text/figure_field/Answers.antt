@@ -1,6 +1,6 @@
 -- `figure_field` meets its contract. Assumes nothing.
 use Rattle.lines.specs.Text.{figure_text}
-use Rattle.lines.proofs.figure_field.Goals as goal
+use Rattle.lines.proofs.text.Text.figure_field.Goals as goal
 
 pub returns-in-Bytes : goal.returns-in-Bytes
 unfolding figure_text

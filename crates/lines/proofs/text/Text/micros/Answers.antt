@@ -1,4 +1,4 @@
--- `put_micros` meets its contract. Assumes nothing.
+-- `micros` meets its contract. Assumes nothing.
 use Prim.Native.Nat.{ℕ, min}
 use mathlib.Core.Path.{sym, ap, ◌∙◌}
 use mathlib.Core.List.{◌++◌}
@@ -7,7 +7,7 @@ use Rattle.lines.specs.Decimal.{ascii, decimal, microseconds}
 use Rattle.lines.proofs.Written.{no_longer, same_text, behind}
 use Rattle.lines.proofs.Decimal.{digits_most, below, not_below}
 use native.Mathlib.Omega.{arith}
-use Rattle.lines.proofs.put_micros.Goals as goal
+use Rattle.lines.proofs.text.Text.micros.Goals as goal
 
 pub returns-then-below-eq0 : goal.returns-then-below-eq0
 unfolding microseconds
@@ -15,7 +15,7 @@ returns-then-below-eq0 c =
     let x = c.args.seconds ⊗ 1000000f in
     let none = sym (ap (λ (k : ℕ). min k 9223372036854775808) c.to_u64.ensures) ∙ sym c.min-below.ensures ∙ c.if-below-eq0.true in
     same_text
-    c.put_number.ensures
+    c.number.ensures
     (ap decimal (c.min.ensures ∙ ap (λ (k : ℕ). min k 9223372036854775807) c.to_u64-then-below-eq0.ensures) ∙ sym (not_below x none))
 
 pub returns : goal.returns
@@ -23,7 +23,7 @@ unfolding microseconds
 returns c =
     let x = c.args.seconds ⊗ 1000000f in
     let magnitude = c.min-below.ensures ∙ ap (λ (k : ℕ). min k 9223372036854775808) c.to_u64.ensures in
-    let all = behind c.put-next.ensures c.put_number-2.ensures in
+    let all = behind c.byte.ensures c.number-2.ensures in
     same_text
     (no_longer all 20 (omega (arith, digits_most 18 c.min-below.result (omega (arith, c.min-below.ensures)))))
     (ap (λ (k : ℕ). ascii "-" ++ decimal k) magnitude ∙ sym (below x (λ e. c.if-below-eq0.false (magnitude ∙ e))))

@@ -5,19 +5,16 @@ use borrow.Author.Rules.{rules}
 use native.Mathlib.Omega.{arith}
 use Rattle.report.proofs.Search.{length_of_map}
 use Rattle.lines.specs.Text.{each, chain_line, chain_lines}
-use Rattle.lines.proofs.Written.{nothing, within}
+use Rattle.lines.proofs.Written.{nothing}
 use Rattle.lines.proofs.Lines.{next_line, all_lines}
-use Rattle.lines.proofs.chain_lines.Goals as goal
+use Rattle.lines.proofs.text.Text.chain_lines.Goals as goal
 
 pub loop-chain-init : goal.loop-chain-init
 unfolding each
-loop-chain-init c = nothing _ _ c.requires
-
-pub chain_line-next-requires : goal.chain_line-next-requires
-chain_line-next-requires c = within c.loop-chain.invariant
+loop-chain-init c = nothing _
 
 pub loop-chain-preserved : goal.loop-chain-preserved
-loop-chain-preserved c = next_line chain_line 132 _ _ c.loop-chain.invariant _ (omega arith) c.chain_line-next.ensures
+loop-chain-preserved c = next_line chain_line 132 _ _ c.loop-chain.invariant _ (omega arith) c.chain_line.ensures
 
 pub returns : goal.returns
 unfolding chain_lines

@@ -2,8 +2,8 @@
 use Prim.Native.Nat.{◌*◌}
 use lib.ListN.{take}
 use Rattle.lines.specs.Text.{each, violation_line}
-use Rattle.lines.specs.Written.{Written}
-use Rattle.lines.proofs.violation_lines.Given as goal
+use Rattle.lines.specs.Written.{Appends}
+use Rattle.lines.proofs.text.Text.violation_lines.Given as goal
 
 abbrev pub invariant-loop-line : goal.invariant-loop-line
-invariant-loop-line l = Written (l.line-index * 115) (each violation_line (take l.line-index l.line-items)) l.initial.out l.at l.out l.next
+invariant-loop-line l = Appends (l.line-index * 115) (each violation_line (take l.line-index l.line-items)) l.initial.self l.self

@@ -5,21 +5,18 @@ use borrow.Author.Rules.{rules}
 use native.Mathlib.Omega.{arith}
 use Rattle.report.proofs.Search.{length_of_map}
 use Rattle.lines.specs.Text.{each, fields_line, violation_line, violation_lines}
-use Rattle.lines.proofs.Written.{nothing, within, same_text}
+use Rattle.lines.proofs.Written.{nothing, same_text}
 use Rattle.lines.proofs.Lines.{next_line, all_lines}
-use Rattle.lines.proofs.violation_lines.Goals as goal
+use Rattle.lines.proofs.text.Text.violation_lines.Goals as goal
 
 pub loop-line-init : goal.loop-line-init
 unfolding each
-loop-line-init c = nothing _ _ c.requires
-
-pub violation_line-next-requires : goal.violation_line-next-requires
-violation_line-next-requires c = within c.loop-line.invariant
+loop-line-init c = nothing _
 
 pub loop-line-preserved : goal.loop-line-preserved
 unfolding violation_line
 loop-line-preserved c =
-    next_line violation_line 115 _ _ c.loop-line.invariant _ (omega arith) (same_text c.violation_line-next.ensures (ap fields_line c.fields.ensures))
+    next_line violation_line 115 _ _ c.loop-line.invariant _ (omega arith) (same_text c.violation_line.ensures (ap fields_line c.fields.ensures))
 
 pub returns : goal.returns
 unfolding violation_lines
