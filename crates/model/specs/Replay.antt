@@ -1,11 +1,11 @@
 -- The replay (the Rust's `analyze_tstd` with document 01's limits and refusals), over lists, floats and what is read of a recording.
-use Rattle.std.specs.Prelude.{ℕ, suc, ◌+◌, ◌*◌, cond, List, [], ◌∷◌, ◌++◌, map, length, get_or, set, eqb, Float}
+use Rattle.std.specs.Prelude.{ℕ, suc, ◌+◌, ◌*◌, cond, List, [], ◌∷◌, ◌++◌, map, length, get_or, set, eqb, Float, Option, Some, None, Result, Ok, Err}
 use Rattle.std.specs.Float.Ieee.{lt}
 use Rattle.ieee.specs.Binary64.{◌⊖◌, -∞, +∞, 0f, 188f}
 use Rattle.ieee.specs.MaxMin.{max_of, min_of}
 use Rattle.error.specs.declared.Refusal.{Refusal}
+use Rattle.packet.specs.declared.TsPacketLayout.{TsPacketLayout}
 use Rattle.packet.specs.declared.TsPacket.{TsPacket}
-use Rattle.packet.specs.declared.Detected.{Detected}
 use Rattle.scanner.specs.declared.Runs.{Runs}
 use Rattle.recording.specs.Read.{Streams, Fact, unparsed, parsed, parse_in, Read}
 use Rattle.arrival.specs.declared.RateInterval.{RateInterval}
@@ -28,7 +28,6 @@ use Rattle.profile.specs.declared.config.TStdConfig.{TStdConfig}
 use Rattle.profile.specs.declared.limits.Limits.{Limits}
 use Rattle.profile.specs.declared.owner.Owner.{Owner}
 use Rattle.profile.specs.declared.work.WorkSize.{WorkSize}
-use Rattle.profile.specs.declared.work.Checked.{Checked}
 use Rattle.profile.specs.Config.{streams_of, stream_pids, unused_stream}
 use Rattle.profile.specs.Owner.{owner_of}
 use Rattle.profile.specs.Work.{check_of}
@@ -206,13 +205,13 @@ unfoldable pub with_clock : TStdConfig → Read → Built → Outcome
 with_clock c r (refused x) = refused_with x
 with_clock c r (intervals clock) = replay_from c clock (length (samples_read c r)) 0 r.facts (started c)
 
-unfoldable pub with_layout : TStdConfig → Read → Detected → Outcome
-with_layout c r Detected.Nothing = refused_with Refusal.NoPacketLayout
-with_layout c r (Detected.Found y) = with_clock c r (build c.clock_depth (samples_read c r))
+unfoldable pub with_layout : TStdConfig → Read → Option TsPacketLayout → Outcome
+with_layout c r None = refused_with Refusal.NoPacketLayout
+with_layout c r (Some y) = with_clock c r (build c.clock_depth (samples_read c r))
 
-unfoldable pub with_check : TStdConfig → Read → Checked → Outcome
-with_check c r (Checked.Refused x) = refused_with x
-with_check c r (Checked.Fits needed) = with_layout c r r.layout
+unfoldable pub with_check : TStdConfig → Read → Result WorkSize Refusal → Outcome
+with_check c r (Err x) = refused_with x
+with_check c r (Ok needed) = with_layout c r r.layout
 
 -- room: the lengths of work and row that are lent
 unfoldable pub replay : Limits → TStdConfig → WorkSize → Read → Outcome
