@@ -14,7 +14,6 @@ use Rattle.packet.specs.Layout.{layout_of}
 use Rattle.recording.specs.Read.{read_of}
 use Rattle.profile.specs.declared.work.Checked.{Checked}
 use Rattle.profile.specs.Range.{max_recording}
-use Rattle.profile.specs.Every.{every}
 use Rattle.profile.specs.Model.{branch_ok}
 use Rattle.profile.specs.Config.{stream_ok}
 use Rattle.profile.specs.Limits.{replay_limits, within_limits}
@@ -27,11 +26,11 @@ use Rattle.line_program.specs.Output.{line_config, line_limits, line_room, line_
 
 -- the profile is within the limits, and the work and row are what it needs
 line_check : (n : ℕ) → check_of line_limits line_config line_room n ≡ cond (leb n 32768) (Checked.Fits (needed_of line_config)) (Checked.Refused Refusal.RecordingTooLong)
-unfolding check_of within_limits every stream_ok branch_ok covers needed_of line_config
+unfolding check_of within_limits stream_ok branch_ok covers needed_of line_config
 line_check n = refl
 
 replay_check : (n : ℕ) → check_of replay_limits line_config line_room n ≡ cond (leb n max_recording) (Checked.Fits (needed_of line_config)) (Checked.Refused Refusal.RecordingTooLong)
-unfolding check_of within_limits every stream_ok branch_ok covers needed_of line_config
+unfolding check_of within_limits stream_ok branch_ok covers needed_of line_config
 replay_check n = refl
 
 module _ (l : List ℕ) where

@@ -1,6 +1,5 @@
 -- The laws of the profile.
 pub mod Ranges
-pub mod Every
 pub mod Search
 pub mod Copies
 pub mod Within

@@ -11,8 +11,8 @@ use borrow.Author.Tests.{eq-eqb, lt-ltb, eqb-true, eqb-false}
 use lib.Dec.{eqb, ltb, leb-suc-suc}
 use lib.ListN.{length, get_or}
 use Rattle.std.specs.Prelude.{Option, Some, None}
-use Rattle.std.specs.List.{position_or_len}
-use Rattle.profile.specs.Owner.{contains, first_index, index_of}
+use Rattle.std.specs.List.{position, position_or_len}
+use Rattle.profile.specs.Owner.{contains, first_index}
 
 -- an entry is the PID exactly if the search ends before the length
 pub contains_index : (l : List ℕ) (pid : ℕ) → contains l pid ≡ ltb (first_index l pid) (length l)
@@ -67,25 +67,9 @@ module _ (pid : ℕ) where
       by_place (inl e) ih = rw (eq-eqb p pid (sym e))
       by_place (inr m) ih = rw (ih m) (or_true (eqb p pid))
 
--- where there is one, and where none
-module _ (pid : ℕ) (l : List ℕ) {r : Option ℕ} (e : r ≡ index_of l pid) where
-  pub index_some : {i : ℕ} → r ≡ Some i → (contains l pid ≡ true) × (i ≡ first_index l pid)
-  index_some {i} f = by_test (contains l pid) refl (sym e ∙ f)
-    where
-      by_test : (t : Bool) → contains l pid ≡ t → cond t (Some (first_index l pid)) None ≡ Some i → (contains l pid ≡ true) × (i ≡ first_index l pid)
-      by_test true c g = (c, cc)
-      by_test false c g = cc
-
-  pub index_none : r ≡ None → contains l pid ≡ false
-  index_none f = by_test (contains l pid) refl (sym e ∙ f)
-    where
-      by_test : (t : Bool) → contains l pid ≡ t → cond t (Some (first_index l pid)) None ≡ None → contains l pid ≡ false
-      by_test true c g = cc
-      by_test false c g = c
-
 module _ (pid : ℕ) where
-  -- the same index as std's search gives
-  pub position_index : (l : List ℕ) → position_or_len (λ p. eqb p pid) l ≡ first_index l pid
+  -- std's search gives the same index
+  position_index : (l : List ℕ) → position_or_len (λ p. eqb p pid) l ≡ first_index l pid
   unfolding first_index
   position_index [] = refl
   position_index (p ∷ l) = by_test (eqb p pid) (position_index l)
@@ -94,5 +78,21 @@ module _ (pid : ℕ) where
       by_test true ih = refl
       by_test false ih = omega (arith, ih)
 
-  pub position_is : (l : List ℕ) → cond (ltb (position_or_len (λ p. eqb p pid) l) (length l)) (Some (position_or_len (λ p. eqb p pid) l)) None ≡ index_of l pid
+  position_is : (l : List ℕ) → position (λ p. eqb p pid) l ≡ cond (contains l pid) (Some (first_index l pid)) None
   position_is l = rw (position_index l, contains_index l pid)
+
+  -- where there is one, and where none
+  module _ (l : List ℕ) {r : Option ℕ} (e : r ≡ position (λ p. eqb p pid) l) where
+    pub index_some : {i : ℕ} → r ≡ Some i → (contains l pid ≡ true) × (i ≡ first_index l pid)
+    index_some {i} f = by_test (contains l pid) refl (sym (e ∙ position_is l) ∙ f)
+      where
+        by_test : (t : Bool) → contains l pid ≡ t → cond t (Some (first_index l pid)) None ≡ Some i → (contains l pid ≡ true) × (i ≡ first_index l pid)
+        by_test true c g = (c, cc)
+        by_test false c g = cc
+
+    pub index_none : r ≡ None → contains l pid ≡ false
+    index_none f = by_test (contains l pid) refl (sym (e ∙ position_is l) ∙ f)
+      where
+        by_test : (t : Bool) → contains l pid ≡ t → cond t (Some (first_index l pid)) None ≡ None → contains l pid ≡ false
+        by_test true c g = cc
+        by_test false c g = c

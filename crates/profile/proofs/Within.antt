@@ -9,18 +9,19 @@ use borrow.Author.Tests.{leb-true, le-leb}
 use lib.Dec.{leb}
 use lib.ListN.{length, get_or}
 use lib.Seq.{length-take-le, get_or-take}
+use Rattle.std.specs.List.{list_all}
+use Rattle.std.proofs.lemmas.List.Elements.{All-from_get_or}
+use Rattle.std.proofs.lemmas.List.Sums.{AllPass-from_list_all, list_all-from_AllPass}
 use Rattle.profile.specs.declared.model.TStdBranch.{TStdBranch}
 use Rattle.profile.specs.declared.model.TStdBranch.TheVariants.{Main, Video}
 use Rattle.profile.specs.declared.config.TStdStream.{TStdStream}
 use Rattle.profile.specs.declared.config.TStdConfig.{TStdConfig}
 use Rattle.profile.specs.declared.limits.Limits.{Limits}
 use Rattle.profile.specs.Range.{max_pid, max_streams, max_system_pids, min_queue_depth, min_clock_depth, max_clock_depth, between, pid_ok, rate_ok, size_ok}
-use Rattle.profile.specs.Every.{every}
 use Rattle.profile.specs.Model.{branch_ok}
 use Rattle.profile.specs.Config.{stream_ok, unused_stream, streams_of, system_pids}
 use Rattle.profile.specs.Limits.{within_limits}
 use Rattle.profile.proofs.Ranges.{Between, RateWithin, SizeWithin, between_true, true_between, rate_true, true_rate, size_true, true_size, and_left, and_right, and_both}
-use Rattle.profile.proofs.Every.{every_at, at_every}
 
 abbrev pub BranchWithin : TStdBranch → Type 0
 BranchWithin (Main size) = SizeWithin size
@@ -94,13 +95,13 @@ module _ (limits : Limits) (c : TStdConfig) where
   t5 = t4 && between min_clock_depth max_clock_depth c.clock_depth
 
   abbrev t6 : Bool
-  t6 = t5 && every stream_ok (streams_of c)
+  t6 = t5 && list_all stream_ok (streams_of c)
 
   pub limits_within : within_limits limits c ≡ true → Within limits c
   unfolding within_limits
   limits_within e =
-      let e6 = and_left t6 (every pid_ok (system_pids c)) e in
-      let e5 = and_left t5 (every stream_ok (streams_of c)) e6 in
+      let e6 = and_left t6 (list_all pid_ok (system_pids c)) e in
+      let e5 = and_left t5 (list_all stream_ok (streams_of c)) e6 in
       let e4 = and_left t4 (between min_clock_depth max_clock_depth c.clock_depth) e5 in
       let e3 = and_left t3 (between min_queue_depth limits.deepest_queue c.queue_depth) e4 in
       let e2 = and_left t2 (leb c.system_count max_system_pids) e3 in
@@ -116,18 +117,18 @@ module _ (limits : Limits) (c : TStdConfig) where
         streams =
             λ i h.
             stream_true (get_or (streams_of c) i unused_stream)
-            (every_at stream_ok unused_stream (streams_of c) (and_right t5 (every stream_ok (streams_of c)) e6) i h);
+            (AllPass-from_list_all stream_ok (streams_of c) (and_right t5 (list_all stream_ok (streams_of c)) e6) i unused_stream h);
         system_pids =
             λ i h.
             leb-true (get_or (system_pids c) i 0) max_pid
-            (every_at pid_ok 0 (system_pids c) (and_right t6 (every pid_ok (system_pids c)) e) i h);
+            (AllPass-from_list_all pid_ok (system_pids c) (and_right t6 (list_all pid_ok (system_pids c)) e) i 0 h);
       }
 
   pub within_limits_lem : Within limits c → within_limits limits c ≡ true
   unfolding within_limits
   within_limits_lem w =
-      and_both t6 (every pid_ok (system_pids c))
-      (and_both t5 (every stream_ok (streams_of c))
+      and_both t6 (list_all pid_ok (system_pids c))
+      (and_both t5 (list_all stream_ok (streams_of c))
       (and_both t4 (between min_clock_depth max_clock_depth c.clock_depth)
       (and_both t3 (between min_queue_depth limits.deepest_queue c.queue_depth)
       (and_both t2 (leb c.system_count max_system_pids)
@@ -135,8 +136,8 @@ module _ (limits : Limits) (c : TStdConfig) where
       (le-leb c.system_count max_system_pids w.system_count))
       (true_between min_queue_depth limits.deepest_queue c.queue_depth w.queue_depth))
       (true_between min_clock_depth max_clock_depth c.clock_depth w.clock_depth))
-      (at_every stream_ok unused_stream (streams_of c) (λ i h. true_stream (get_or (streams_of c) i unused_stream) (w.streams i h))))
-      (at_every pid_ok 0 (system_pids c) (λ i h. le-leb (get_or (system_pids c) i 0) max_pid (w.system_pids i h)))
+      (list_all-from_AllPass stream_ok (streams_of c) (All-from_get_or (λ s. stream_ok s ≡ true) (streams_of c) unused_stream (λ i h. true_stream (get_or (streams_of c) i unused_stream) (w.streams i h)))))
+      (list_all-from_AllPass pid_ok (system_pids c) (All-from_get_or (λ p. pid_ok p ≡ true) (system_pids c) 0 (λ i h. le-leb (get_or (system_pids c) i 0) max_pid (w.system_pids i h))))
 
   -- a slot in use, where the array has its eight slots
   pub stream_within : Within limits c → length c.streams ≡ max_streams → (i : ℕ) → i < c.stream_count → StreamWithin (get_or c.streams i unused_stream)

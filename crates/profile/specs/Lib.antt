@@ -1,6 +1,5 @@
 -- The definitions of the profile.
 pub mod Range
-pub mod Every
 pub mod Model
 pub mod Config
 pub mod Limits

@@ -1,6 +1,6 @@
 -- Whose packets a PID carries (document 01): of the streams with that PID the first takes them, a PID in both lists is a
 -- stream, one that is in neither is nobody's.
-use Rattle.std.specs.Prelude.{ℕ, suc, Bool, false, cond, ◌||◌, List, [], ◌∷◌, map, take, eqb, Option, Some, None}
+use Rattle.std.specs.Prelude.{ℕ, suc, Bool, false, cond, ◌||◌, List, [], ◌∷◌, map, take, eqb}
 use Rattle.profile.specs.declared.config.TStdConfig.{TStdConfig}
 use Rattle.profile.specs.declared.owner.Owner.{Owner}
 use Rattle.profile.specs.declared.owner.Pids.{Pids}
@@ -14,10 +14,6 @@ contains (p ∷ ps) pid = eqb p pid || contains ps pid
 unfoldable pub first_index : List ℕ → ℕ → ℕ
 first_index [] pid = 0
 first_index (p ∷ ps) pid = cond (eqb p pid) 0 (suc (first_index ps pid))
-
--- that index, where an entry is pid
-abbrev pub index_of : List ℕ → ℕ → Option ℕ
-index_of ps pid = cond (contains ps pid) (Some (first_index ps pid)) None
 
 -- by the lists of stream PIDs and of system PIDs
 unfoldable pub owner_in : (streams system : List ℕ) → ℕ → Owner

@@ -26,6 +26,7 @@ pub struct TStdConfig {
     pub clock_depth: usize,
 }
 
+#[tactic(auto, unfolding(crate::specs::Config::stream_ok))]
 pub(crate) fn stream_ok(stream: TStdStream) -> bool
     ensures { result ≡ stream_ok stream }
 {

@@ -2,7 +2,7 @@
 ghost use Rattle.std.specs.Prelude.{◌≡◌, take};
 ghost use Rattle.profile.specs.Range.{pid_ok};
 ghost use Rattle.profile.specs.Config.{stream_ok};
-ghost use Rattle.profile.specs.Every.{every};
+ghost use Rattle.std.specs.List.{list_all};
 ghost use Rattle.profile.specs.Limits.{replay_limits, within_limits};
 
 use crate::config::{TStdConfig, TStdStream, stream_ok};
@@ -53,18 +53,19 @@ impl Limits {
 }
 
 fn streams_ok(streams: [TStdStream; MAX_STREAMS], count: usize) -> bool
-    ensures { result ≡ every stream_ok (take count streams) }
+    ensures { result ≡ list_all stream_ok (take count streams) }
 {
     streams.iter().take(count).all(|stream| stream_ok(*stream))
 }
 
 fn pids_ok(pids: [u16; MAX_SYSTEM_PIDS], count: usize) -> bool
-    ensures { result ≡ every pid_ok (take count pids) }
+    ensures { result ≡ list_all pid_ok (take count pids) }
 {
     pids.iter().take(count).all(|pid| pid_ok(*pid))
 }
 
 // Ruled out: refusing a repeated stream PID, or what a slot past a count holds; a figure one outside its limit taken.
+#[tactic(auto, unfolding(crate::specs::Limits::within_limits))]
 pub fn in_limits(config: TStdConfig, limits: Limits) -> bool
     ensures { result ≡ within_limits limits config }
 {

@@ -32,6 +32,7 @@ pub struct TStdStreamModel {
     pub branch: TStdBranch,
 }
 
+#[tactic(auto, unfolding(crate::specs::Model::branch_ok))]
 pub(crate) fn branch_ok(branch: TStdBranch) -> bool
     ensures { result ≡ branch_ok branch }
 {
@@ -71,6 +72,7 @@ fn video_model(rmax_bps: u64, rbx_bps: u64, mb_size: usize, eb_size: usize) -> T
 
 impl TStdStreamModel {
     // Ruled out: a branch outside the limits taken because the rate is inside; a rate cut to the limit.
+    #[tactic(auto, unfolding(crate::specs::Model::new_model))]
     pub fn new(rx_bps: u64, branch: TStdBranch) -> Result<TStdStreamModel, Refusal>
         ensures { result ≡ new_model rx_bps branch }
     {
@@ -81,6 +83,7 @@ impl TStdStreamModel {
     }
 
     // Ruled out: the old rate kept; a refusal because of the branch, which is no argument.
+    #[tactic(auto, unfolding(crate::specs::Model::with_rx_bps))]
     pub fn with_rx_bps(self, v: u64) -> Result<TStdStreamModel, Refusal>
         ensures { result ≡ with_rx_bps self v }
     {
@@ -91,6 +94,7 @@ impl TStdStreamModel {
     }
 
     // Ruled out: a Video branch taken whose Rbxn is outside; the rate changed.
+    #[tactic(auto, unfolding(crate::specs::Model::with_branch))]
     pub fn with_branch(self, v: TStdBranch) -> Result<TStdStreamModel, Refusal>
         ensures { result ≡ with_branch self v }
     {
@@ -114,6 +118,7 @@ impl TStdStreamModel {
 
     // Low or Main level; Rmax and VBVmax are those of the profile and level (ISO/IEC 13818-2).
     // Ruled out: vbv_buffer_size - VBVmax as the headroom; a refusal where VBVmax is the smaller.
+    #[tactic(auto, unfolding(crate::specs::Model::video_low_main_level))]
     pub fn video_low_main_level(
         rmax_bps: u64,
         vbv_buffer_size_bytes: usize,
@@ -131,6 +136,7 @@ impl TStdStreamModel {
 
     // High-1440 or High level; res_bps is the rate of the elementary stream.
     // Ruled out: Rbxn above Rmax; the headroom of the lower levels in MBSn.
+    #[tactic(auto, unfolding(crate::specs::Model::video_high_level))]
     pub fn video_high_level(
         rmax_bps: u64,
         res_bps: u64,

@@ -1,6 +1,7 @@
 // Whose packets a PID carries: the first stream of that PID, else the system branch, else nobody's.
-ghost use Rattle.std.specs.Prelude.{◌≡◌, take};
-ghost use Rattle.profile.specs.Owner.{index_of, owner_of, owner_by, pids_of};
+ghost use Rattle.std.specs.Prelude.{◌≡◌, take, eqb};
+ghost use Rattle.std.specs.List.{position};
+ghost use Rattle.profile.specs.Owner.{owner_of, owner_by, pids_of};
 
 use crate::config::TStdConfig;
 use crate::limits::{MAX_STREAMS, MAX_SYSTEM_PIDS};
@@ -24,13 +25,14 @@ pub struct Pids {
 
 // Of the first count PIDs the index of the first that is this one.
 fn index_of(pids: &[u16], count: usize, pid: u16) -> Option<usize>
-    ensures { result ≡ index_of (take count pids.now) pid }
+    ensures { result ≡ position (λ p. eqb p pid) (take count pids.now) }
 {
     pids.iter().take(count).position(|p| *p == pid)
 }
 
 impl Pids {
     // Ruled out: the last of two streams of the PID; the system branch for a PID that is in both lists.
+    #[tactic(auto, using(crate::proofs::Ownership::owner_stream, crate::proofs::Ownership::owner_system, crate::proofs::Ownership::owner_nobody, crate::proofs::Search::index_some, crate::proofs::Search::index_none))]
     pub fn owner(self, pid: u16) -> Owner
         ensures { result ≡ owner_by self pid }
     {
@@ -60,6 +62,7 @@ impl TStdConfig {
     }
 
     // Ruled out: a stream for the PID that a slot past the count holds; the system branch for the PCR PID alone.
+    #[tactic(auto, using(crate::proofs::Ownership::pids_owner))]
     pub fn owner(self, pid: u16) -> Owner
         ensures { result ≡ owner_of self pid }
     {

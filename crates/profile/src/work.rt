@@ -28,6 +28,7 @@ fn row_len(streams: usize, system_pids: usize) -> usize
 }
 
 // Whether the f64 lent are enough. The queue depth may be any number, so the product is not formed before it fits.
+#[tactic(auto, using(crate::proofs::Sizes::times_compare))]
 fn times_fit(streams: usize, queue_depth: usize, clock_depth: usize, lent: usize) -> bool
     requires { (streams ≤ max_streams) × (clock_depth ≤ max_clock_depth) }
     ensures { result ≡ leb (times_needed streams queue_depth clock_depth) lent }
@@ -42,6 +43,7 @@ fn times_fit(streams: usize, queue_depth: usize, clock_depth: usize, lent: usize
     queue_depth <= (lent - clock) / (8 * streams)
 }
 
+#[tactic(auto, using(crate::proofs::Sizes::product), unfolding(crate::specs::Work::needed_of))]
 fn needed(config: TStdConfig) -> WorkSize
     requires { Formed config }
     ensures { result ≡ needed_of config }
@@ -56,6 +58,7 @@ fn needed(config: TStdConfig) -> WorkSize
 
 // Numbers 1, 2 and 3 in that order, else what the replay needs.
 // Ruled out: number 2 for a configuration outside the limits; a row without the system chain's record taken.
+#[tactic(auto, using(crate::proofs::Within::limits_within), unfolding(crate::specs::Work::check_of, crate::specs::Work::covers, crate::specs::Work::needed_of))]
 pub fn check(
     config: TStdConfig,
     limits: Limits,
