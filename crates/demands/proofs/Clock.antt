@@ -8,6 +8,7 @@ use borrow.Author.Tests.{ltb-true, ltb-false, lt-ltb, le-ltb, eqb-true, eqb-fals
 use lib.ListN.{length}
 use lib.Dec.{ltb, eqb}
 use lib.Ieee.{lt}
+use Rattle.std.specs.Prelude.{Result, Ok, Err}
 use Rattle.ieee.specs.Binary64.{1000f, 1000000000f}
 use Rattle.error.specs.declared.Refusal.{Refusal}
 use Rattle.arrival.specs.declared.RateInterval.{RateInterval}
@@ -18,11 +19,11 @@ use Rattle.arrival.specs.ArrivalClock.{Built, intervals, refused, and_then, behi
 use Rattle.demands.specs.Refused.{Reaches, here, later, Comes, comes, MarkBeforeRate, NoStep, BadRate, SampleIs}
 
 -- ---- one sample
-data CloseWay (n : ℕ) (a : Anchor) (s : Sample) : Closed → Type 0 where
-  mark : MarkBeforeRate n s → CloseWay n a s (Closed.Refuses (Refusal.DiscontinuityBeforeRate n))
-  no_step : NoStep a s → CloseWay n a s (Closed.Refuses (Refusal.RepeatedPcr n))
-  bad_rate : BadRate a s → CloseWay n a s (Closed.Refuses (Refusal.RateOutsideLimits n))
-  closes : (i : RateInterval) (b : Anchor) → CloseWay n a s (Closed.Closes i b)
+data CloseWay (n : ℕ) (a : Anchor) (s : Sample) : Result Closed Refusal → Type 0 where
+  mark : MarkBeforeRate n s → CloseWay n a s (Err (Refusal.DiscontinuityBeforeRate n))
+  no_step : NoStep a s → CloseWay n a s (Err (Refusal.RepeatedPcr n))
+  bad_rate : BadRate a s → CloseWay n a s (Err (Refusal.RateOutsideLimits n))
+  closes : (i : RateInterval) (b : Anchor) → CloseWay n a s (Ok (record { interval = i; anchor = b }))
 
 module _ (n : ℕ) (a : Anchor) (s : Sample) where
   close_way : CloseWay n a s (close n a s)
@@ -31,24 +32,24 @@ module _ (n : ℕ) (a : Anchor) (s : Sample) where
     where
       by : (m : Bool) → s.marked ≡ m → (o : Bool) → eqb n 1 ≡ o → (z : Bool) → eqb (step_to a s) 0 ≡ z → (r : Bool) → (lt (rate_to a s) 1000f || lt 1000000000f (rate_to a s)) ≡ r
           → CloseWay n a s
-          (cond m (cond o (Closed.Refuses (Refusal.DiscontinuityBeforeRate n)) (Closed.Closes (interval_at a a.rate) (restarted a s)))
-          (cond z (Closed.Refuses (Refusal.RepeatedPcr n))
-          (cond r (Closed.Refuses (Refusal.RateOutsideLimits n)) (Closed.Closes (interval_at a (rate_to a s)) (stepped a s)))))
+          (cond m (cond o (Err (Refusal.DiscontinuityBeforeRate n)) (Ok (record { interval = interval_at a a.rate; anchor = restarted a s })))
+          (cond z (Err (Refusal.RepeatedPcr n))
+          (cond r (Err (Refusal.RateOutsideLimits n)) (Ok (record { interval = interval_at a (rate_to a s); anchor = stepped a s })))))
       by true p true e z f r g = mark (record { marked = p; second = eqb-true n 1 e })
       by true p false e z f r g = closes _ _
       by false p o e true f r g = no_step (record { unmarked = p; none = eqb-true (step_to a s) 0 f })
       by false p o e false f true g = bad_rate (record { unmarked = p; some = omega (arith, eqb-false (step_to a s) 0 f); outside = g })
       by false p o e false f false g = closes _ _
 
-  pub close_mark : MarkBeforeRate n s → close n a s ≡ Closed.Refuses (Refusal.DiscontinuityBeforeRate n)
+  pub close_mark : MarkBeforeRate n s → close n a s ≡ Err (Refusal.DiscontinuityBeforeRate n)
   unfolding close
   close_mark h = rw (h.marked, eq-eqb n 1 h.second)
 
-  pub close_no_step : NoStep a s → close n a s ≡ Closed.Refuses (Refusal.RepeatedPcr n)
+  pub close_no_step : NoStep a s → close n a s ≡ Err (Refusal.RepeatedPcr n)
   unfolding close
   close_no_step h = rw (h.unmarked, eq-eqb (step_to a s) 0 h.none)
 
-  pub close_bad_rate : BadRate a s → close n a s ≡ Closed.Refuses (Refusal.RateOutsideLimits n)
+  pub close_bad_rate : BadRate a s → close n a s ≡ Err (Refusal.RateOutsideLimits n)
   unfolding close
   close_bad_rate h = rw (h.unmarked, ne_eqb (step_to a s) 0 (λ e. omega (arith, h.some)), h.outside)
 
@@ -59,7 +60,7 @@ data FromWay (n : ℕ) (a : Anchor) (ss : List Sample) : Built → Type 0 where
   bad_rate : {m : ℕ} {b : Anchor} {s : Sample} → Reaches n a ss m b s → BadRate b s → FromWay n a ss (refused (Refusal.RateOutsideLimits m))
   built : (is : List RateInterval) → FromWay n a ss (intervals is)
 
-then_way : {n : ℕ} {a b : Anchor} {s : Sample} {ss : List Sample} (i : RateInterval) → close n a s ≡ Closed.Closes i b
+then_way : {n : ℕ} {a b : Anchor} {s : Sample} {ss : List Sample} (i : RateInterval) → close n a s ≡ Ok (record { interval = i; anchor = b })
     → {x : Built} → FromWay (n + 1) b ss x → FromWay n a (s ∷ ss) (and_then i x)
 then_way i e (FromWay.mark r h) = FromWay.mark (later i e r) h
 then_way i e (FromWay.no_step r h) = FromWay.no_step (later i e r) h
@@ -71,18 +72,18 @@ unfolding build_from
 from_way [] n a = FromWay.built []
 from_way (s ∷ ss) n a = by (λ b. from_way ss (n + 1) b) (close n a s) refl (close_way n a s)
   where
-    by : ((b : Anchor) → FromWay (n + 1) b ss (build_from (n + 1) b ss)) → (x : Closed) → close n a s ≡ x → CloseWay n a s x → FromWay n a (s ∷ ss) (behind x (λ b. build_from (n + 1) b ss))
+    by : ((b : Anchor) → FromWay (n + 1) b ss (build_from (n + 1) b ss)) → (x : Result Closed Refusal) → close n a s ≡ x → CloseWay n a s x → FromWay n a (s ∷ ss) (behind x (λ b. build_from (n + 1) b ss))
     by again x e (CloseWay.mark h) = FromWay.mark here h
     by again x e (CloseWay.no_step h) = FromWay.no_step here h
     by again x e (CloseWay.bad_rate h) = FromWay.bad_rate here h
     by again x e (CloseWay.closes i b) = then_way i e (again b)
 
-reaches_refused : {n m : ℕ} {a b : Anchor} {s : Sample} {ss : List Sample} {r : Refusal} → Reaches n a ss m b s → close m b s ≡ Closed.Refuses r → build_from n a ss ≡ refused r
+reaches_refused : {n m : ℕ} {a b : Anchor} {s : Sample} {ss : List Sample} {r : Refusal} → Reaches n a ss m b s → close m b s ≡ Err r → build_from n a ss ≡ refused r
 unfolding build_from
 reaches_refused here e = rw e
 reaches_refused (later i f h) e = rw f (ap (and_then i) (reaches_refused h e))
 
-comes_refused : {n : ℕ} {a : Anchor} {s : Sample} {ss : List Sample} {r : Refusal} → Comes ss n a s → close n a s ≡ Closed.Refuses r → build_all ss ≡ refused r
+comes_refused : {n : ℕ} {a : Anchor} {s : Sample} {ss : List Sample} {r : Refusal} → Comes ss n a s → close n a s ≡ Err r → build_all ss ≡ refused r
 comes_refused (comes h) e = reaches_refused h e
 
 -- ---- all of them

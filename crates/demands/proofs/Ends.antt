@@ -19,7 +19,7 @@ pub same_running : {s t : State} → running s ≡ running t → s ≡ t
 same_running e = cc
 
 pub never_full : {s : State} {pid : ℕ} → full pid ≡ running s → ⊥
-never_full e = let z : ◌≡◌ {A = ℕ} 0 1 = cc in omega arith
+never_full e = cc
 
 -- the state behind it
 abbrev pub behind : ℕ → State → ChainStep → State
@@ -88,7 +88,7 @@ ends_run c (m ∷ ms) i s t e = by (λ s' f. ends_run c ms (suc i) s' t f) (step
     by : ((s' : State) → ends_from c (suc i) ms s' ≡ running t → EndsTo c (suc i) ms s' (suc i + length ms) [] t)
         → (r : Ran) → stepped c i s (end_step m c.queue_depth (chain_at c s i)) ≡ r → and_then r (λ (s' : State). ends_from c (suc i) ms s') ≡ running t → EndsTo c i (m ∷ ms) s (i + length (m ∷ ms)) [] t
     by again (running s') p q = let z : i + suc (length ms) ≡ suc i + length ms = omega arith in rw z (an_end p (again s' q))
-    by again (full pid) p q = absurd (let z : ◌≡◌ {A = ℕ} 0 1 = cc in omega arith)
+    by again (full pid) p q = cc
 
 -- ---- an end that meets a full queue
 module _ (c : TStdConfig) where

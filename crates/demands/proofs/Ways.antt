@@ -6,8 +6,9 @@ use mathlib.Core.List.{List}
 use borrow.Author.Tests.{leb-true, leb-false}
 use lib.ListN.{length}
 use lib.Dec.{leb}
+use Rattle.std.specs.Prelude.{Option, Some, None, Ok}
 use Rattle.error.specs.declared.Refusal.{Refusal}
-use Rattle.packet.specs.declared.Detected.{Detected}
+use Rattle.packet.specs.declared.TsPacketLayout.{TsPacketLayout}
 use Rattle.packet.specs.Layout.{layout_of}
 use Rattle.recording.specs.Read.{read_at, read_by}
 use Rattle.arrival.specs.declared.Sample.{Sample}
@@ -16,7 +17,6 @@ use Rattle.arrival.specs.ArrivalClock.{Built, build}
 use Rattle.profile.specs.declared.config.TStdConfig.{TStdConfig}
 use Rattle.profile.specs.declared.limits.Limits.{Limits}
 use Rattle.profile.specs.declared.work.WorkSize.{WorkSize}
-use Rattle.profile.specs.declared.work.Checked.{Checked}
 use Rattle.profile.specs.Limits.{within_limits}
 use Rattle.profile.specs.Work.{needed_of, covers, check_of}
 use Rattle.profile.proofs.Sizes.{check_outside, check_short, check_long, check_fits, covers_covered}
@@ -31,7 +31,7 @@ module _ (limits : Limits) (c : TStdConfig) (room : WorkSize) (l : List ℕ) whe
     outside : within_limits limits c ≡ false → Way (refused_with Refusal.OutsideLimits)
     work : within_limits limits c ≡ true → covers room (needed_of c) ≡ false → Way (refused_with Refusal.WorkTooShort)
     long : within_limits limits c ≡ true → covers room (needed_of c) ≡ true → limits.longest_recording < length l → Way (refused_with Refusal.RecordingTooLong)
-    no_layout : Fit limits c room l → layout_of l ≡ Detected.Nothing → Way (refused_with Refusal.NoPacketLayout)
+    no_layout : Fit limits c room l → layout_of l ≡ None → Way (refused_with Refusal.NoPacketLayout)
     full_clock : LaidOut limits c room l → c.clock_depth < length (samples_in c l) → Way (refused_with (Refusal.ClockFull c.clock_depth))
     few : LaidOut limits c room l → length (samples_in c l) < 2 → Way (refused_with Refusal.TooFewPcrs)
     mark : {n : ℕ} → Sampled limits c room l → SampleIs (λ (a : Anchor) (s : Sample). MarkBeforeRate n s) (samples_in c l) n → Way (refused_with (Refusal.DiscontinuityBeforeRate n))
@@ -40,7 +40,7 @@ module _ (limits : Limits) (c : TStdConfig) (room : WorkSize) (l : List ℕ) whe
     queue : {k pid : ℕ} (h : Clocked limits c room l) → FullQueue c h.clock 0 (read_in c l).facts (started c) k pid → Way (refused_with (Refusal.QueueFull k pid))
     completed : (h : Completed limits c room l) → Way (reported c (length (samples_in c l)) h.ended.final)
 
-  pub fit_check : Fit limits c room l → check_of limits c room (length l) ≡ Checked.Fits (needed_of c)
+  pub fit_check : Fit limits c room l → check_of limits c room (length l) ≡ Ok (needed_of c)
   fit_check f = check_fits limits c room (length l) f.within (covers_covered room (needed_of c) f.covered) f.short
 
   -- at a layout: the clock, then pass 2
@@ -68,9 +68,9 @@ module _ (limits : Limits) (c : TStdConfig) (room : WorkSize) (l : List ℕ) whe
       by (RunWay.queue q) = queue k q
       by (RunWay.done d) = completed (record { clocked = k; ended = d })
 
-  by_layout : Fit limits c room l → (d : Detected) → layout_of l ≡ d → Way (answer limits c room l)
-  by_layout f Detected.Nothing e = rw (layout_refusal limits c room (needed_of c) l (fit_check f) e) (no_layout f e)
-  by_layout f (Detected.Found y) e =
+  by_layout : Fit limits c room l → (d : Option TsPacketLayout) → layout_of l ≡ d → Way (answer limits c room l)
+  by_layout f None e = rw (layout_refusal limits c room (needed_of c) l (fit_check f) e) (no_layout f e)
+  by_layout f (Some y) e =
       let h : LaidOut limits c room l = record { fit = f; layout = y; found = e } in
       rw (laid_out_answer h) (by_clock h (build c.clock_depth (samples_in c l)) refl (clock_way c.clock_depth (samples_in c l)))
 

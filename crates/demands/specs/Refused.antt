@@ -1,9 +1,8 @@
 -- The conditions under which a replay is refused, number by number, and under which it is accepted.
-use Rattle.std.specs.Prelude.{ℕ, suc, ◌+◌, ◌*◌, ◌≤◌, ◌<◌, ◌≡◌, true, false, ◌||◌, List, [], ◌∷◌, ◌++◌, length, get_or}
+use Rattle.std.specs.Prelude.{ℕ, suc, ◌+◌, ◌*◌, ◌≤◌, ◌<◌, ◌≡◌, true, false, ◌||◌, List, [], ◌∷◌, ◌++◌, length, get_or, Some, None, Ok}
 use Rattle.std.specs.Float.Ieee.{lt}
 use Rattle.ieee.specs.Binary64.{1000f, 1000000000f}
 use Rattle.error.specs.declared.Refusal.{Refusal}
-use Rattle.packet.specs.declared.Detected.{Detected}
 use Rattle.packet.specs.declared.TsPacketLayout.{TsPacketLayout}
 use Rattle.packet.specs.Layout.{layout_of}
 use Rattle.packet.specs.declared.TsPacket.{TsPacket}
@@ -12,7 +11,6 @@ use Rattle.recording.specs.Read.{Fact, parsed, Read, read_of}
 use Rattle.arrival.specs.declared.RateInterval.{RateInterval}
 use Rattle.arrival.specs.declared.Sample.{Sample}
 use Rattle.arrival.specs.declared.Anchor.{Anchor}
-use Rattle.arrival.specs.declared.Closed.{Closed}
 use Rattle.arrival.specs.ArrivalClock.{intervals, anchor_at, step_to, rate_to, close, build}
 use Rattle.arrival.specs.Times.{covering, arrival_at}
 use Rattle.profile.specs.declared.config.TStdStream.{TStdStream}
@@ -52,7 +50,7 @@ pub record Fit (limits : Limits) (c : TStdConfig) (room : WorkSize) (l : List �
 pub record LaidOut (limits : Limits) (c : TStdConfig) (room : WorkSize) (l : List ℕ) : Type 0 where
   pub fit : Fit limits c room l
   pub layout : TsPacketLayout
-  pub found : layout_of l ≡ Detected.Found layout
+  pub found : layout_of l ≡ Some layout
 
 -- ---- numbers 8 and 5
 -- and there are from 2 samples to as many as the clock depth
@@ -65,7 +63,7 @@ pub record Sampled (limits : Limits) (c : TStdConfig) (room : WorkSize) (l : Lis
 -- each sample from number n on, counted from 0, closes the interval behind the anchor, up to sample m, which comes behind the anchor b
 pub data Reaches : ℕ → Anchor → List Sample → ℕ → Anchor → Sample → Type 0 where
   here : {n : ℕ} {a : Anchor} {s : Sample} {ss : List Sample} → Reaches n a (s ∷ ss) n a s
-  later : {n m : ℕ} {a b a' : Anchor} {s s' : Sample} {ss : List Sample} (i : RateInterval) → close n a s ≡ Closed.Closes i a'
+  later : {n m : ℕ} {a b a' : Anchor} {s s' : Sample} {ss : List Sample} (i : RateInterval) → close n a s ≡ Ok (record { interval = i; anchor = a' })
       → Reaches (n + 1) a' ss m b s' → Reaches n a (s ∷ ss) m b s'
 
 -- the same from the first sample on
@@ -156,7 +154,7 @@ pub record TooLong (limits : Limits) (c : TStdConfig) (room : WorkSize) (l : Lis
 
 pub record NoLayout (limits : Limits) (c : TStdConfig) (room : WorkSize) (l : List ℕ) : Type 0 where
   pub fit : Fit limits c room l
-  pub none : layout_of l ≡ Detected.Nothing
+  pub none : layout_of l ≡ None
 
 pub record TooFew (limits : Limits) (c : TStdConfig) (room : WorkSize) (l : List ℕ) : Type 0 where
   pub laid_out : LaidOut limits c room l

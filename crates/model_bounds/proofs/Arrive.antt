@@ -7,10 +7,10 @@ use mathlib.Core.Path.{◌≡◌, refl, subst, sym}
 use mathlib.Core.Bool.{Bool, true, false, cond}
 use lib.Dec.{T, eqb, lit≤}
 use lib.Ieee.{Float, binary64, fits, eq, ne, le}
+use Rattle.std.specs.Prelude.{Option, Some, None}
 use Rattle.ieee.specs.Binary64.{0f, 188f, -∞}
 use Rattle.ieee.specs.Interval.{minus, plain}
 use Rattle.ieee.proofs.Interval.{in_finite, widen}
-use Rattle.scanner.specs.declared.DecodeTs.{DecodeTs}
 use Rattle.scanner.specs.declared.Runs.{Runs}
 use Rattle.recording.proofs.Bounds.{RunsHold}
 use Rattle.arrival.specs.declared.RateInterval.{RateInterval}
@@ -79,11 +79,11 @@ unstamped : (first : Float) → StampIn (open_of (record { decode_time = -∞; b
 unfolding open_of ne eq
 unstamped first = no_stamp
 
-stamp_in_lem : (i : RateInterval) (s : DecodeTs) (first : Float) → IntervalWithin i → ArrivalTime first
+stamp_in_lem : (i : RateInterval) (s : Option ℕ) (first : Float) → IntervalWithin i → ArrivalTime first
     → StampIn (open_of (record { decode_time = stamp_time i s; bytes = 0f; first_input_time = first }))
 unfolding le
-stamp_in_lem i DecodeTs.Absent first w a = unstamped first
-stamp_in_lem i (DecodeTs.At raw) first w a =
+stamp_in_lem i None first w a = unstamped first
+stamp_in_lem i (Some raw) first w a =
     stamped (decode_time i raw) first (widen (minus earliest_time) (plain latest_time) (decode_within i raw w) tt) (decode_fits i raw w) a
 
 -- ---- a packet
