@@ -3,7 +3,6 @@ pub mod Stored
 pub mod Complement
 pub mod Pushes
 pub mod Feeds
-pub mod Listed
 pub mod Field
 pub mod FloatWord
 pub mod RecordCases

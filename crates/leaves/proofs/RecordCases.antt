@@ -1,12 +1,12 @@
 -- The cases of a line recorded in words. Assumes nothing.
-use Rattle.std.proofs.Common.{◌≡◌, ℕ, true, false, List, length, eq-eqb, ne_eqb}
+use Rattle.std.proofs.Common.{◌≡◌, ℕ, Ok, Err, ◌∙◌, true, false, List, length, eq-eqb, ne_eqb, sym}
 use lib.Ieee.{binary64, to_bits}
 use Rattle.error.specs.declared.Refusal.{Refusal}
 use Rattle.error.specs.Code.{code_of}
-use Rattle.report.specs.declared.RecordAnswer.TheVariants.{Done, Refused}
 use Rattle.report.specs.declared.Recorded.{Recorded}
 use Rattle.report.specs.Record.{recorded}
-use Rattle.words.specs.Report.{report_words}
+use Rattle.words.specs.Report.{report_after}
+use Rattle.words.proofs.Report.{that_length}
 use Rattle.leaves.specs.Record.{report_at, violation_at, are_words, record_leaf, record_of, Records}
 
 module _ (ws line : List ℕ) where
@@ -24,10 +24,10 @@ module _ (ws line : List ℕ) where
     both : are_words ws line ≡ true
     both = rw (eq-eqb (length ws) 324 e, eq-eqb (length line) 5 f)
 
-    pub records_done : r.answer ≡ Done → (ws' : List ℕ) → ws' ≡ report_words (to_bits binary64) r.report → Records ws line 0 ws'
+    pub records_done : r.answer ≡ Ok tt → (ws' : List ℕ) → ws' ≡ report_after (to_bits binary64) r.report ws → Records ws line 0 ws'
     unfolding record_of record_leaf
-    records_done d ws' h = record { is = rw (both, ← is, d); holds = rw (both, ← is, d) h }
+    records_done d ws' h = record { is = rw (both, ← is, d); holds = rw (both, ← is, d) (h ∙ sym (that_length (to_bits binary64) r.report ws e)) }
 
-    pub records_refused : (x : Refusal) → r.answer ≡ Refused x → (n : ℕ) → n ≡ (code_of x).number → Records ws line n ws
+    pub records_refused : (x : Refusal) → r.answer ≡ Err x → (n : ℕ) → n ≡ (code_of x).number → Records ws line n ws
     unfolding record_of record_leaf
     records_refused x d n h = record { is = rw (both, ← is, d) h; holds = rw (both, ← is, d) }

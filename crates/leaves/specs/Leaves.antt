@@ -1,14 +1,11 @@
 -- What the functions behind C names answer, from the definition of each function under them: a number, and words that are stored
 -- from the start of a lent slice.
-use Rattle.std.specs.Prelude.{◌≡◌, ℕ, ◌+◌, ◌-◌, ◌%◌, ◌^◌, Bool, cond, List, [], ◌∷◌, ◌++◌, length, drop, ℤ, pos, negsuc, ◌==◌, nat_le, slice_index_or, Float}
+use Rattle.std.specs.Prelude.{◌≡◌, ℕ, ◌+◌, ◌-◌, ◌%◌, ◌^◌, Bool, cond, List, [], ◌∷◌, ◌++◌, length, drop, ℤ, pos, negsuc, ◌==◌, nat_le, slice_index_or, Float, Option, Some, None, Result, Ok, Err}
 use Rattle.std.specs.Float.{nan}
 use Rattle.error.specs.declared.Refusal.{Refusal}
 use Rattle.error.specs.Code.{code_of}
-use Rattle.clock.specs.declared.Extended.{Extended}
-use Rattle.clock.specs.declared.Delta.{Delta}
-use Rattle.packet.specs.declared.Detected.{Detected}
+use Rattle.packet.specs.declared.TsPacketLayout.{TsPacketLayout}
 use Rattle.profile.specs.declared.model.TStdStreamModel.{TStdStreamModel}
-use Rattle.profile.specs.declared.model.ModelAnswer.{ModelAnswer}
 use Rattle.profile.specs.Model.{audio_model, video_low_main_level, video_high_level}
 use Rattle.words.specs.Profile.{branch_words}
 use Rattle.fifo.specs.declared.FluidFifo.{FluidFifo}
@@ -42,38 +39,42 @@ flag_word b = cond b 1 0
 unfoldable pub plus_one : ℕ → ℕ
 plus_one n = (n + 1) % 2 ^ 64
 
+unfoldable pub word_of : Option ℕ → ℕ
+word_of (Some n) = plus_one n
+word_of None = 0
+
 -- ---- clock
-unfoldable pub stamp_leaf : Extended → Leaf
-stamp_leaf (Extended.Timestamp t) = done (t ∷ [])
-stamp_leaf (Extended.Refused x) = refused x
+unfoldable pub stamp_leaf : Result ℕ Refusal → Leaf
+stamp_leaf (Ok t) = done (t ∷ [])
+stamp_leaf (Err x) = refused x
 
 -- a signed number of 64 bits as its word
 unfoldable pub twos_complement : ℤ → ℕ
 twos_complement (pos n) = n
 twos_complement (negsuc n) = 2 ^ 64 - 1 - n
 
-unfoldable pub delta_leaf : Delta → Leaf
-delta_leaf (Delta.Ticks step) = done (twos_complement step ∷ [])
-delta_leaf (Delta.Refused x) = refused x
+unfoldable pub delta_leaf : Result ℤ Refusal → Leaf
+delta_leaf (Ok step) = done (twos_complement step ∷ [])
+delta_leaf (Err x) = refused x
 
 -- ---- PES and layout
-unfoldable pub size_found : Detected → ℕ
-size_found (Detected.Found l) = l.packet_size
-size_found Detected.Nothing = 0
+unfoldable pub size_found : Option TsPacketLayout → ℕ
+size_found (Some l) = l.packet_size
+size_found None = 0
 
 -- ---- stream models: 0 audio, 1 low or main level, 2 high level
-unfoldable pub model_by : (kind a b c : ℕ) → ModelAnswer
+unfoldable pub model_by : (kind a b c : ℕ) → Result TStdStreamModel Refusal
 model_by kind a b c =
-    cond (kind == 0) (ModelAnswer.Model audio_model)
+    cond (kind == 0) (Ok audio_model)
     (cond (kind == 1) (video_low_main_level a b c)
-    (cond (kind == 2) (video_high_level a b c) (ModelAnswer.Refused Refusal.OutsideLimits)))
+    (cond (kind == 2) (video_high_level a b c) (Err Refusal.OutsideLimits)))
 
 unfoldable pub model_words : TStdStreamModel → List ℕ
 model_words m = m.rx_bps ∷ branch_words m.branch
 
-unfoldable pub model_leaf : ModelAnswer → Leaf
-model_leaf (ModelAnswer.Model m) = done (model_words m)
-model_leaf (ModelAnswer.Refused x) = refused x
+unfoldable pub model_leaf : Result TStdStreamModel Refusal → Leaf
+model_leaf (Ok m) = done (model_words m)
+model_leaf (Err x) = refused x
 
 -- ---- FIFO
 unfoldable pub fifo_figures : FluidFifo → List Float

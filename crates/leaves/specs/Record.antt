@@ -1,6 +1,6 @@
 -- `TStdReport::record` on words: a report in four and five for each of 64 lines, as the replay tells it, and a line in five. Here a
 -- figure in seconds is its bits also where it is a not-a-number, so that a line can be read back.
-use Rattle.std.specs.Prelude.{◌≡◌, ℕ, ◌+◌, ◌*◌, ◌%◌, Bool, cond, ◌&&◌, List, map, length, ◌==◌, from_bits, slice_index, to_bits, Float}
+use Rattle.std.specs.Prelude.{◌≡◌, ℕ, ◌+◌, ◌*◌, ◌%◌, Bool, cond, ◌&&◌, List, map, length, ◌==◌, from_bits, slice_index, to_bits, Float, Result, Ok, Err}
 use Rattle.std.specs.Float.{binary64}
 use Rattle.error.specs.declared.Refusal.{Refusal}
 use Rattle.error.specs.Code.{code_of}
@@ -8,11 +8,9 @@ use Rattle.report.specs.declared.violation.TStdViolation.{TStdViolation}
 use Rattle.report.specs.declared.violation.TStdViolation.TheVariants.{TbOverflow, TbBusyOverOneSecond, MainOverflow, MainUnderflow, MbOverflow, MbBusyOverOneSecond, EbUnderflow, DelayOverOneSecond, BsysOverflow}
 use Rattle.report.specs.declared.ViolationLine.{ViolationLine}
 use Rattle.report.specs.declared.TStdReport.{TStdReport}
-use Rattle.report.specs.declared.RecordAnswer.{RecordAnswer}
-use Rattle.report.specs.declared.RecordAnswer.TheVariants.{Done, Refused}
 use Rattle.report.specs.declared.Recorded.{Recorded}
 use Rattle.report.specs.Record.{recorded}
-use Rattle.words.specs.Config.{up_to}
+use Rattle.std.specs.List.{range_with_len}
 use Rattle.words.specs.Report.{report_words}
 use Rattle.leaves.specs.Leaves.{Leaf, done}
 
@@ -40,7 +38,7 @@ unfoldable pub line_of : List ℕ → ℕ → ViolationLine
 line_of ws i = record { violation = violation_at ws (4 + 5 * i) }
 
 unfoldable pub lines_at : List ℕ → List ViolationLine
-lines_at ws = map (line_of ws) (up_to 64)
+lines_at ws = map (line_of ws) (range_with_len 0 64)
 
 unfoldable pub report_at : List ℕ → TStdReport
 report_at ws =
@@ -53,9 +51,9 @@ report_at ws =
     }
 
 -- ---- a line recorded: number 2 for words of another length, and a refusal leaves the report as it was
-unfoldable pub record_leaf : RecordAnswer → TStdReport → List ℕ → Leaf
-record_leaf Done after ws = done (report_words (to_bits binary64) after)
-record_leaf (Refused x) after ws = record { number = (code_of x).number; words = ws }
+unfoldable pub record_leaf : Result Unit Refusal → TStdReport → List ℕ → Leaf
+record_leaf (Ok u) after ws = done (report_words (to_bits binary64) after)
+record_leaf (Err x) after ws = record { number = (code_of x).number; words = ws }
 
 abbrev pub recorded_leaf : Recorded → List ℕ → Leaf
 recorded_leaf r ws = record_leaf r.answer r.report ws

@@ -1,13 +1,12 @@
 -- `PesScanner::feed` on a state in words: count, whether a unit is open, bytes 3, 7 and 8 of the unit, the five of the PTS, the
 -- five of the DTS. A word of the state counts modulo the size of its field.
 use Rattle.std.specs.Prelude.{◌≡◌, ℕ, ◌+◌, ◌%◌, cond, List, [], ◌∷◌, length, ◌==◌, nat_le, slice_index}
-use Rattle.scanner.specs.declared.DecodeTs.{DecodeTs}
 use Rattle.scanner.specs.declared.Runs.{Runs}
 use Rattle.scanner.specs.declared.StampBytes.{StampBytes}
 use Rattle.scanner.specs.declared.PesScanner.{PesScanner}
 use Rattle.scanner.specs.declared.Fed.{Fed}
 use Rattle.scanner.specs.State.{open_of, fed_of}
-use Rattle.leaves.specs.Leaves.{stored, flag_word, plus_one}
+use Rattle.leaves.specs.Leaves.{stored, flag_word, word_of}
 
 abbrev pub byte_in : List ℕ → ℕ → ℕ
 byte_in s i = slice_index s i % 256
@@ -31,12 +30,8 @@ scanner_words s =
     ∷ s.header.pts.b0 ∷ s.header.pts.b1 ∷ s.header.pts.b2 ∷ s.header.pts.b3 ∷ s.header.pts.b4
     ∷ s.header.dts.b0 ∷ s.header.dts.b1 ∷ s.header.dts.b2 ∷ s.header.dts.b3 ∷ s.header.dts.b4 ∷ []
 
-unfoldable pub stamp_word : DecodeTs → ℕ
-stamp_word (DecodeTs.At t) = plus_one t
-stamp_word DecodeTs.Absent = 0
-
 unfoldable pub run_words : Runs → List ℕ
-run_words r = r.head ∷ stamp_word r.decode_ts ∷ r.rest ∷ r.body ∷ []
+run_words r = r.head ∷ word_of r.decode_ts ∷ r.rest ∷ r.body ∷ []
 
 abbrev pub fed_from : (state payload : List ℕ) (start : ℕ) → Fed
 fed_from state payload start = fed_of (open_of (scanner_at state)) (start == 1) payload

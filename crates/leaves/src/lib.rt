@@ -11,7 +11,6 @@ mod parts;
 mod put;
 mod report_in;
 pub mod report_leaf;
-mod report_out;
 pub mod scanner_leaf;
 mod seconds;
 pub mod stream_leaf;

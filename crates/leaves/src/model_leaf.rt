@@ -4,41 +4,31 @@ ghost use Rattle.leaves.specs.Leaves.{Told, model_by, model_words, model_leaf};
 
 use crate::put::{number, put};
 use error::Refusal;
-use profile::{ModelAnswer, TStdBranch, TStdStreamModel};
+use profile::{TStdBranch, TStdStreamModel};
 
-fn size(word: u64) -> usize
-    ensures { result ≡ word }
-{
-    word as usize
-}
-
-fn model_by(kind: u64, a: u64, b: u64, c: u64) -> ModelAnswer
+#[tactic(auto, unfolding(crate::specs::Leaves::model_by))]
+fn model_by(kind: u64, a: u64, b: u64, c: u64) -> Result<TStdStreamModel, Refusal>
     ensures { result ≡ model_by kind a b c }
 {
-    if kind == 0 {
-        return ModelAnswer::Model(TStdStreamModel::audio());
+    match kind {
+        0 => Ok(TStdStreamModel::audio()),
+        1 => TStdStreamModel::video_low_main_level(a, b as usize, c as usize),
+        2 => TStdStreamModel::video_high_level(a, b, c as usize),
+        _ => Err(Refusal::OutsideLimits),
     }
-    if kind == 1 {
-        return TStdStreamModel::video_low_main_level(a, size(b), size(c));
-    }
-    if kind == 2 {
-        return TStdStreamModel::video_high_level(a, b, size(c));
-    }
-    ModelAnswer::Refused(Refusal::OutsideLimits)
 }
 
+#[tactic(auto, unfolding(crate::specs::Leaves::model_words, words::specs::Profile::branch_words))]
 fn model_words(model: TStdStreamModel) -> [u64; 5]
     ensures { result ≡ model_words model }
 {
-    let rx = model.rx_bps;
-    let branch = model.branch;
-    match branch {
-        TStdBranch::Main { buffer_size } => [rx, 0, buffer_size as u64, 0, 0],
+    match model.branch {
+        TStdBranch::Main { buffer_size } => [model.rx_bps, 0, buffer_size as u64, 0, 0],
         TStdBranch::Video {
             rbx_bps,
             mb_size,
             eb_size,
-        } => [rx, 1, rbx_bps, mb_size as u64, eb_size as u64],
+        } => [model.rx_bps, 1, rbx_bps, mb_size as u64, eb_size as u64],
     }
 }
 
@@ -48,11 +38,10 @@ pub extern "C" fn leaf_model(kind: u64, a: u64, b: u64, c: u64, out: &mut [u64])
     ensures { Told (model_leaf (model_by kind a b c)) result out.old out.new }
 {
     match model_by(kind, a, b, c) {
-        ModelAnswer::Model(model) => {
-            let words = model_words(model);
-            put(&words, out);
+        Ok(model) => {
+            put(&model_words(model), out);
             0
         }
-        ModelAnswer::Refused(refusal) => number(refusal),
+        Err(refusal) => number(refusal),
     }
 }

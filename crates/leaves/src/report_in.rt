@@ -6,80 +6,65 @@ use crate::seconds::seconds_of;
 use report::TStdViolation::*;
 use report::{TStdReport, TStdViolation, ViolationLine};
 
+#[tactic(auto, unfolding(crate::specs::Record::bytes_kind))]
 fn bytes_kind(kind: u64, pid: u16, limit: usize, time: f64, n: u64) -> TStdViolation
     ensures { result ≡ bytes_kind kind pid limit time n }
 {
-    let peak_bytes = n;
-    let missing_bytes = n;
-    let decode_time = time;
-    if kind == 0 {
-        return TbOverflow { pid, peak_bytes };
-    }
-    if kind == 2 {
-        return MainOverflow {
+    match kind {
+        0 => TbOverflow { pid, peak_bytes: n },
+        2 => MainOverflow {
             pid,
-            peak_bytes,
+            peak_bytes: n,
             limit,
-        };
-    }
-    if kind == 3 {
-        return MainUnderflow {
+        },
+        3 => MainUnderflow {
             pid,
-            decode_time,
-            missing_bytes,
-        };
-    }
-    if kind == 4 {
-        return MbOverflow {
+            decode_time: time,
+            missing_bytes: n,
+        },
+        4 => MbOverflow {
             pid,
-            peak_bytes,
+            peak_bytes: n,
             limit,
-        };
-    }
-    if kind == 6 {
-        return EbUnderflow {
+        },
+        6 => EbUnderflow {
             pid,
-            decode_time,
-            missing_bytes,
-        };
+            decode_time: time,
+            missing_bytes: n,
+        },
+        _ => BsysOverflow { peak_bytes: n },
     }
-    BsysOverflow { peak_bytes }
 }
 
+#[tactic(auto, unfolding(crate::specs::Record::violation_of))]
 fn violation_of(kind: u64, pid: u16, limit: usize, time: f64, figure: u64) -> TStdViolation
     ensures { result ≡ violation_of kind pid limit time figure }
 {
     let seconds = seconds_of(figure);
-    if kind == 1 {
-        return TbBusyOverOneSecond { pid, seconds };
-    }
-    if kind == 5 {
-        return MbBusyOverOneSecond { pid, seconds };
-    }
-    if kind == 7 {
-        return DelayOverOneSecond {
+    match kind {
+        1 => TbBusyOverOneSecond { pid, seconds },
+        5 => MbBusyOverOneSecond { pid, seconds },
+        7 => DelayOverOneSecond {
             pid,
             decode_time: time,
             delay_seconds: seconds,
-        };
+        },
+        _ => bytes_kind(kind, pid, limit, time, figure),
     }
-    bytes_kind(kind, pid, limit, time, figure)
 }
 
-fn size(word: u64) -> usize
-    ensures { result ≡ word }
-{
-    word as usize
-}
-
+#[tactic(auto, unfolding(crate::specs::Record::violation_at))]
 pub(crate) fn violation_at(words: &[u64], at: usize) -> TStdViolation
     requires { at + 5 ≤ length words.now }
     ensures { result ≡ violation_at words.now at }
 {
-    let pid = (words[at + 1] % 65536) as u16;
-    let limit = size(words[at + 2]);
-    let time = seconds_of(words[at + 3]);
-    violation_of(words[at], pid, limit, time, words[at + 4])
+    violation_of(
+        words[at],
+        (words[at + 1] % 65536) as u16,
+        words[at + 2] as usize,
+        seconds_of(words[at + 3]),
+        words[at + 4],
+    )
 }
 
 fn lines_at(words: &[u64]) -> [ViolationLine; 64]
@@ -90,28 +75,25 @@ fn lines_at(words: &[u64]) -> [ViolationLine; 64]
         pid: 0,
         peak_bytes: 0,
     };
-    let unused = ViolationLine { violation };
-    let mut lines = [unused; 64];
-    let mut i = 0;
-    while i < 64 {
-        let violation = violation_at(words, 4 + 5 * i);
-        lines[i] = ViolationLine { violation };
-        i += 1;
+    let mut lines = [ViolationLine { violation }; 64];
+    for i in 0..64 {
+        lines[i] = ViolationLine {
+            violation: violation_at(words, 4 + 5 * i),
+        };
     }
     lines
 }
 
+#[tactic(auto, unfolding(crate::specs::Record::report_at))]
 pub(crate) fn report_at(words: &[u64]) -> TStdReport
     requires { length words.now ≡ 324 }
     ensures { result ≡ report_at words.now }
 {
-    let violations = lines_at(words);
-    let modelled_seconds = seconds_of(words[2]);
     TStdReport {
-        violations,
-        violation_count: size(words[3]),
+        violations: lines_at(words),
+        violation_count: words[3] as usize,
         violation_events: words[0],
         pcr_samples: words[1],
-        modelled_seconds,
+        modelled_seconds: seconds_of(words[2]),
     }
 }

@@ -2,15 +2,15 @@
 use Rattle.std.proofs.Common.{refl, to_z-of_z, w64, SFits, rules}
 use Rattle.leaves.specs.Leaves.{delta_leaf}
 use Rattle.leaves.proofs.Stored.{stored_none}
+use Rattle.leaves.proofs.Complement.{complement}
 use Rattle.leaves.proofs.clock_leaf.leaf_delta_ticks.Goals as goal
 
-pub returns-in-Ticks : goal.returns-in-Ticks
+pub returns-in-Ok : goal.returns-in-Ok
 unfolding delta_leaf
-returns-in-Ticks c =
-    let f : SFits w64 c.in-Ticks.step = search rules in
-    rw (← c.in-Ticks.ensures) (record { is = refl; holds = rw (c.twos_complement.ensures, to_z-of_z f) at c.put.ensures })
+returns-in-Ok c =
+    let f : SFits w64 c.in-Ok.step = search rules in
+    rw (← c.in-Ok.ensures) (record { is = refl; holds = rw (c.cast_unsigned.ensures, to_z-of_z f, complement c.in-Ok.step) at c.put.ensures })
 
-pub returns-in-Refused : goal.returns-in-Refused
+pub returns-in-Err : goal.returns-in-Err
 unfolding delta_leaf
-returns-in-Refused c =
-    rw (← c.in-Refused.ensures) (record { is = c.number.ensures; holds = stored_none _ })
+returns-in-Err c = rw (← c.in-Err.ensures) (record { is = c.number.ensures; holds = stored_none _ })

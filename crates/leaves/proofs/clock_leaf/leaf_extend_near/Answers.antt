@@ -4,11 +4,10 @@ use Rattle.leaves.specs.Leaves.{stamp_leaf}
 use Rattle.leaves.proofs.Stored.{stored_none}
 use Rattle.leaves.proofs.clock_leaf.leaf_extend_near.Goals as goal
 
-pub returns-in-Timestamp : goal.returns-in-Timestamp
+pub returns-in-Ok : goal.returns-in-Ok
 unfolding stamp_leaf
-returns-in-Timestamp c = rw (← c.in-Timestamp.ensures) (record { is = refl; holds = c.put.ensures })
+returns-in-Ok c = rw (← c.in-Ok.ensures) (record { is = refl; holds = c.put.ensures })
 
-pub returns-in-Refused : goal.returns-in-Refused
+pub returns-in-Err : goal.returns-in-Err
 unfolding stamp_leaf
-returns-in-Refused c =
-    rw (← c.in-Refused.ensures) (record { is = c.number.ensures; holds = stored_none _ })
+returns-in-Err c = rw (← c.in-Err.ensures) (record { is = c.number.ensures; holds = stored_none _ })

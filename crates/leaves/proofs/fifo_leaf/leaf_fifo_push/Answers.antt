@@ -1,12 +1,13 @@
 -- `leaf_fifo_push` meets its contract. Assumes nothing.
-use Rattle.leaves.specs.Leaves.{fifo_figures, window_figures, fifo_at}
+use Rattle.leaves.specs.Leaves.{window_figures, fifo_at}
 use Rattle.leaves.proofs.Pushes.{pushes_none, pushes}
 use Rattle.leaves.proofs.fifo_leaf.leaf_fifo_push.Goals as goal
 
-pub returns-then-state-lt5 : goal.returns-then-state-lt5
-returns-then-state-lt5 c = pushes_none _ _ _ _ _ c.if-state-lt5.true
+pub returns-in_default : goal.returns-in_default
+returns-in_default c = pushes_none _ _ _ _ _ c.in_default.len_below
 
 pub returns : goal.returns
-unfolding fifo_figures window_figures fifo_at
+unfolding window_figures fifo_at
 returns c =
-    let a = c.args in pushes a.state.now a.from a.to a.bytes a.out.now c.if-state-lt5.false c.push-pushed.result c.push-pushed.ensures _ _ c.put_figures.ensures c.put_figures-2.ensures
+    let a = c.args in
+    pushes a.state.now a.from a.to a.bytes a.out.now c.in-len5-up.len_at_least c.push-pushed.result c.push-pushed.ensures _ _ (rw c.fifo_figures.ensures at c.put.ensures) c.put-2.ensures

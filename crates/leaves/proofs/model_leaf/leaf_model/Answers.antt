@@ -4,12 +4,10 @@ use Rattle.leaves.specs.Leaves.{model_leaf}
 use Rattle.leaves.proofs.Stored.{stored_none}
 use Rattle.leaves.proofs.model_leaf.leaf_model.Goals as goal
 
-pub returns-in-Model : goal.returns-in-Model
+pub returns-in-Ok : goal.returns-in-Ok
 unfolding model_leaf
-returns-in-Model c =
-    rw (← c.in-Model.ensures, ← c.model_words-words.ensures) (record { is = refl; holds = c.put.ensures })
+returns-in-Ok c = rw (← c.in-Ok.ensures, ← c.model_words.ensures) (record { is = refl; holds = c.put.ensures })
 
-pub returns-in-Refused : goal.returns-in-Refused
+pub returns-in-Err : goal.returns-in-Err
 unfolding model_leaf
-returns-in-Refused c =
-    rw (← c.in-Refused.ensures) (record { is = c.number.ensures; holds = stored_none _ })
+returns-in-Err c = rw (← c.in-Err.ensures) (record { is = c.number.ensures; holds = stored_none _ })
