@@ -13,7 +13,7 @@ ascii (String.◌∷◌ c cs) = code c ∷ ascii cs
 abbrev pub digit : ℕ → ℕ
 digit d = 48 + d
 
--- the decimal digits of n, where n is at most turns: all but the last are those of n / 10
+-- the decimal digits of n, where n is at most turns: all but the last are those of n / 10 (std's `decimal` stops at 64 digits)
 unfoldable pub digits_in : ℕ → ℕ → List ℕ
 digits_in zero n = digit n ∷ []
 digits_in (suc turns) n =

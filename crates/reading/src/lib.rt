@@ -14,6 +14,7 @@ pub fn read_full<R: Read>(reader: &mut R, buf: &mut [u8]) -> io::Result<usize>
     ensures bytes { IfOk result (λ n. Consumes (R.remaining reader.old) (R.remaining reader.new) (take n buf.new)) }
     ensures end { IfOk result (λ n. n < length buf.new → IsAtEnd (R.remaining reader.new)) }
 {
+    // Read by read: std's `read_exact` fails at an input that is shorter, and `read_to_end` takes memory from the heap.
     let mut at = 0;
     while at < buf.len() {
         let n = reader.read(&mut buf[at..])?;
