@@ -30,7 +30,7 @@ pub struct TStdConfig {
 pub(crate) fn stream_ok(stream: TStdStream) -> bool
     ensures { result ≡ stream_ok stream }
 {
-    pid_ok(stream.pid) & rate_ok(stream.model.rx_bps) & branch_ok(stream.model.branch)
+    pid_ok(stream.pid) && rate_ok(stream.model.rx_bps) && branch_ok(stream.model.branch)
 }
 
 impl TStdConfig {

@@ -70,10 +70,10 @@ pub fn in_limits(config: TStdConfig, limits: Limits) -> bool
     ensures { result ≡ within_limits limits config }
 {
     pid_ok(config.pcr_pid)
-        & (config.stream_count <= MAX_STREAMS)
-        & (config.system_count <= MAX_SYSTEM_PIDS)
-        & ((MIN_QUEUE_DEPTH <= config.queue_depth) & (config.queue_depth <= limits.deepest_queue))
-        & ((MIN_CLOCK_DEPTH <= config.clock_depth) & (config.clock_depth <= MAX_CLOCK_DEPTH))
-        & streams_ok(config.streams, config.stream_count)
-        & pids_ok(config.system_pids, config.system_count)
+        && config.stream_count <= MAX_STREAMS
+        && config.system_count <= MAX_SYSTEM_PIDS
+        && (MIN_QUEUE_DEPTH <= config.queue_depth && config.queue_depth <= limits.deepest_queue)
+        && (MIN_CLOCK_DEPTH <= config.clock_depth && config.clock_depth <= MAX_CLOCK_DEPTH)
+        && streams_ok(config.streams, config.stream_count)
+        && pids_ok(config.system_pids, config.system_count)
 }

@@ -42,7 +42,7 @@ pub(crate) fn branch_ok(branch: TStdBranch) -> bool
             rbx_bps,
             mb_size,
             eb_size,
-        } => rate_ok(rbx_bps) & size_ok(mb_size) & size_ok(eb_size),
+        } => rate_ok(rbx_bps) && size_ok(mb_size) && size_ok(eb_size),
     }
 }
 
@@ -76,7 +76,7 @@ impl TStdStreamModel {
     pub fn new(rx_bps: u64, branch: TStdBranch) -> Result<TStdStreamModel, Refusal>
         ensures { result ≡ new_model rx_bps branch }
     {
-        if !(rate_ok(rx_bps) & branch_ok(branch)) {
+        if !(rate_ok(rx_bps) && branch_ok(branch)) {
             return Err(Refusal::OutsideLimits);
         }
         Ok(TStdStreamModel { rx_bps, branch })
@@ -126,7 +126,7 @@ impl TStdStreamModel {
     ) -> Result<TStdStreamModel, Refusal>
         ensures { result ≡ video_low_main_level rmax_bps vbv_buffer_size_bytes vbv_max_bytes }
     {
-        if !(rate_ok(rmax_bps) & size_ok(vbv_buffer_size_bytes) & size_ok(vbv_max_bytes)) {
+        if !(rate_ok(rmax_bps) && size_ok(vbv_buffer_size_bytes) && size_ok(vbv_max_bytes)) {
             return Err(Refusal::OutsideLimits);
         }
         let headroom = vbv_max_bytes.saturating_sub(vbv_buffer_size_bytes);
@@ -144,7 +144,7 @@ impl TStdStreamModel {
     ) -> Result<TStdStreamModel, Refusal>
         ensures { result ≡ video_high_level rmax_bps res_bps vbv_buffer_size_bytes }
     {
-        if !(rate_ok(rmax_bps) & rate_ok(res_bps) & size_ok(vbv_buffer_size_bytes)) {
+        if !(rate_ok(rmax_bps) && rate_ok(res_bps) && size_ok(vbv_buffer_size_bytes)) {
             return Err(Refusal::OutsideLimits);
         }
         let rbx_bps = (res_bps + res_bps / 20).min(rmax_bps);

@@ -79,10 +79,7 @@ pub fn check(
         return Err(Refusal::WorkTooShort);
     }
     let size = needed(config);
-    if lent.places < size.places {
-        return Err(Refusal::WorkTooShort);
-    }
-    if lent.row < size.row {
+    if lent.places < size.places || lent.row < size.row {
         return Err(Refusal::WorkTooShort);
     }
     if limits.longest_recording < recording_len {

@@ -1,14 +1,15 @@
 -- The search of `record` for the line of an event's key, a turn at a time, and what each way out of it makes of the report.
 use mathlib.Core.Path.{◌≡◌, refl, sym, ap, ◌∙◌}
 use mathlib.Core.Bool.{Bool, true, false, ◌||◌}
+use mathlib.Core.Logic.{◌⊎◌, inl, inr}
 use mathlib.Core.List.{List, [], ◌∷◌, ◌++◌, map, append_assoc}
 use Prim.Native.Nat.{ℕ, zero, suc, ◌+◌, ◌≤◌, ◌<◌}
 use native.Mathlib.Numerals.{add-one}
 use native.Mathlib.Omega.{arith}
 use lib.ListN.{length, length-map, take, drop, set, get_or, length-append, length-set, take-append-drop, drop_of_length-le}
 use lib.Seq.{get_or-take, drop-cons, take-suc, length-take-le, take-set-lt, drop-set-lt, set_split, take_all}
-use lib.Dec.{ltb, eqb}
-use borrow.Author.Tests.{ltb-false, eqb-false, le-ltb, eq-eqb, ne_eqb}
+use lib.Dec.{ltb}
+use borrow.Author.Tests.{lt-ltb, le-ltb, eq-eqb, ne_eqb}
 use Rattle.error.specs.declared.Refusal.{Refusal}
 use Rattle.report.specs.declared.violation.TStdViolation.{TStdViolation}
 use Rattle.report.specs.declared.ViolationLine.{ViolationLine}
@@ -17,7 +18,6 @@ use Rattle.std.specs.Prelude.{Ok, Err, Option, Some, None, MatchOption}
 use Rattle.std.specs.List.{AllWithin, HoldsAt}
 use Rattle.report.specs.declared.Recorded.{Recorded}
 use Rattle.report.specs.Violation.{key_of, same_key, merge_of}
-use Rattle.report.proofs.Bools.{or_left, or_right}
 use Rattle.report.specs.Keys.{has_key}
 use Rattle.report.specs.Record.{keys_of, record_line, lines_of, most_events, refuses, with_lines, recorded, record_code}
 use Rattle.report.specs.Report.{answer_code}
@@ -48,15 +48,20 @@ module _ (r : TStdReport) (v : TStdViolation) where
   abbrev taken : List ViolationLine → ℕ → Recorded
   taken ls n = record { answer = Ok tt; report = record { violations = ls; violation_count = n; violation_events = r.violation_events + 1; pcr_samples = r.pcr_samples; modelled_seconds = r.modelled_seconds } }
 
-  pub refused_first : (ltb 64 r.violation_count || eqb r.violation_events most_events) ≡ true → recorded r v ≡ unchanged
+  pub refused_first : (r.violation_events ≡ most_events) ⊎ ((r.violation_events ≡ most_events → ⊥) × (64 < r.violation_count)) → recorded r v ≡ unchanged
   unfolding recorded refuses
-  refused_first h = rw h
+  refused_first (inl h) = rw (eq-eqb r.violation_events most_events h, or_true (ltb 64 r.violation_count))
+    where
+      or_true : (b : Bool) → (b || true) ≡ true
+      or_true true = refl
+      or_true false = refl
+  refused_first (inr h) = rw (lt-ltb 64 r.violation_count h.1)
 
-  pub starts : length r.violations ≡ 64 → r.violation_events ≤ most_events → (ltb 64 r.violation_count || eqb r.violation_events most_events) ≡ false → Searched r v 0
-  starts f m h = record {
+  pub starts : length r.violations ≡ 64 → r.violation_events ≤ most_events → r.violation_count ≤ 64 → (r.violation_events ≡ most_events → ⊥) → Searched r v 0
+  starts f m few ne = record {
     full = f;
-    lines = ltb-false 64 r.violation_count (or_left _ _ h);
-    events = let ne = eqb-false r.violation_events most_events (or_right (ltb 64 r.violation_count) _ h) in omega arith;
+    lines = few;
+    events = omega arith;
     within = omega arith;
     put = refl;
     has = refl;

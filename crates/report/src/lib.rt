@@ -93,7 +93,7 @@ impl TStdReport {
         ensures { (result ≡ recorded self v) × (answer_code result.answer ≡ record_code self v) }
     {
         let count = self.violation_count;
-        if (64 < count) | (self.violation_events == u64::MAX) {
+        if self.violation_events == u64::MAX || 64 < count {
             return Recorded {
                 answer: Err(Refusal::OutsideLimits),
                 report: self,

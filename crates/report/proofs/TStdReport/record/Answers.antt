@@ -9,11 +9,11 @@ use Rattle.report.proofs.Search.{OfKey, OfOther, Found, Searched, told, refused_
 use Rattle.report.proofs.TStdReport.record.Goals as goal
 use Rattle.report.proofs.TStdReport.record.Goals.{After-position-found}
 
-pub returns-then-count-self : goal.returns-then-count-self
-returns-then-count-self c = told c.args.self c.args.v (sym (refused_first c.args.self c.args.v c.if-count-self.true))
+pub returns-then-self : goal.returns-then-self
+returns-then-self c = told c.args.self c.args.v (sym (refused_first c.args.self c.args.v c.then-self.either))
 
 start : (c : After-position-found) → Searched c.args.self c.args.v 0
-start c = starts c.args.self c.args.v (search (length_of_map, rules)) (search rules) c.if-count-self.false
+start c = starts c.args.self c.args.v (search (length_of_map, rules)) (search rules) (omega arith) c.if-self.false
 
 -- what the search found
 found : (c : After-position-found) → Found c.args.self c.args.v unused_line (start c) c.position-found.result
