@@ -1,6 +1,6 @@
 -- Packets behind one another: how many lie in a recording, and how far the search for the next field has come. Assumes nothing.
 use Rattle.std.specs.Prelude.{None}
-use Prim.Native.Nat.{ℕ, ◌+◌, ◌-◌, ◌*◌, ◌/◌, ◌≤◌}
+use Prim.Native.Nat.{ℕ, ◌+◌, ◌*◌, ◌≤◌}
 use mathlib.Core.Path.{◌≡◌, refl}
 use mathlib.Core.Bool.{Bool, true, false}
 use mathlib.Core.List.{List}
@@ -8,24 +8,13 @@ use native.Mathlib.Omega.{arith}
 use lib.Dec.{eqb}
 use lib.ListN.{length, take, drop}
 use borrow.Author.Tests.{eqb-true, eqb-false}
-use Rattle.packet.specs.declared.TsPacketLayout.{TsPacketLayout}
 use Rattle.packet.specs.Packet.{parse_of}
 use Rattle.packet.specs.Layout.{layout}
-use Rattle.packet.proofs.Parts.{within_length}
 use Rattle.packet.proofs.Grid.{step_on}
 use Rattle.packet.proofs.Layouts.{window_is}
 use Rattle.recording.specs.Read.{packet_at}
 use Rattle.arrival.specs.Samples.{field_on}
-use Rattle.arrival_clock.specs.Stretch.{Whole, NoFieldOn}
-
--- as many packets as the recording has room for
-pub whole_by : (y : TsPacketLayout) (l : List ℕ) (n : ℕ) → 188 ≤ y.packet_size → y.packet_size ≤ length l → y.sync_offset ≤ length l - 188
-    → n ≤ (length l - 188 - y.sync_offset) / y.packet_size + 1 → Whole y l n
-whole_by y l n long within off h =
-    record {
-      inside = λ k b. omega (arith, within_length (length l - 188 - y.sync_offset) y.packet_size k (omega arith));
-      size_within = λ b. within;
-    }
+use Rattle.arrival_clock.specs.Stretch.{NoFieldOn}
 
 -- the search, before packet `next` at its place: there is no field from packet k on
 module _ (pcrPid : ℕ) (l : List ℕ) (size off k : ℕ) where

@@ -30,6 +30,7 @@ fn whole_packets(bytes: &[u8], layout: TsPacketLayout, count: usize) -> usize
 }
 
 // Whether the packet at a place is of the PCR PID and has an adaptation field, by bytes 1 to 3 alone.
+#[tactic(auto, using(crate::proofs::Absent::elsewhere_at, crate::proofs::Absent::bare_at, packet::proofs::Slices::of_slice))]
 fn has_field_at(bytes: &[u8], place: usize, pcr_pid: u16) -> bool
     requires { place + 188 ≤ length bytes.now }
     ensures { result ≡ false → field_on pcr_pid (parse_of (take 188 (drop place bytes.now))) ≡ None }
@@ -39,6 +40,7 @@ fn has_field_at(bytes: &[u8], place: usize, pcr_pid: u16) -> bool
 }
 
 // The next packet, from packet k on and before `end`, that has an adaptation field on the PCR PID; else where the search ends.
+#[tactic(auto, using(crate::proofs::Stretch::search_starts))]
 fn next_field_on(bytes: &[u8], layout: TsPacketLayout, k: usize, end: usize, pcr_pid: u16) -> usize
     requires { Whole layout bytes.now end }
     ensures { (k ≤ result) × (result ≤ max k end) × NoFieldOn pcr_pid layout bytes.now k result }
@@ -46,13 +48,12 @@ fn next_field_on(bytes: &[u8], layout: TsPacketLayout, k: usize, end: usize, pcr
     if end <= k {
         return k;
     }
-    let size = layout.packet_size;
-    let mut place = k * size + layout.sync_offset;
+    let mut place = k * layout.packet_size + layout.sync_offset;
     for next in k..end {
         if has_field_at(bytes, place, pcr_pid) {
             return next;
         }
-        place += size;
+        place += layout.packet_size;
     }
     end
 }
@@ -68,6 +69,7 @@ fn start_behind(start: u64, n: usize) -> u64
 // Only a packet with an adaptation field on the PCR PID is parsed, or one that is not known to lie in the recording. All before the
 // next such packet change the start alone, at once: to pass the whole struct on costs 10 ns a packet.
 // Ruled out: a clock of the packets before the first that does not parse; a clock with the PCRs of another PID.
+#[tactic(auto, using(crate::proofs::Turns::starts, crate::proofs::Turns::all_passed, crate::proofs::Clock::build_keeps))]
 pub fn build(
     bytes: &[u8],
     layout: TsPacketLayout,

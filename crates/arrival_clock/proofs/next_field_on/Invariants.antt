@@ -1,9 +1,7 @@
 -- `arrival_clock::next_field_on` meets its contract. The invariant: no field before `next`, and its packet is looked for at its place.
 -- Assumes nothing.
 use Rattle.arrival_clock.proofs.Stretch.{Searched}
-use Prim.Native.Nat.{ℕ, ◌+◌, ◌*◌}
-use mathlib.Core.Path.{◌≡◌}
 use Rattle.arrival_clock.proofs.next_field_on.Given as goal
 
 abbrev pub invariant-loop-next : goal.invariant-loop-next
-invariant-loop-next l = (off : ℕ) → l.initial.place ≡ l.k * l.size + off → Searched l.pcr_pid l.bytes l.size off l.k l.next l.place
+invariant-loop-next l = Searched l.pcr_pid l.bytes l.layout.packet_size l.layout.sync_offset l.k l.next l.place
