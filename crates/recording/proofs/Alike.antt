@@ -20,7 +20,7 @@ use Rattle.packet.proofs.Same.{parse_same}
 use Rattle.packet.proofs.Grid.{in_packet_lem}
 use Rattle.packet.proofs.Layouts.{window_byte, nth_fits, payload_is, payload_length}
 use Rattle.scanner.specs.Unit.{Open, none, unit, starts, next_open, onward, runs_in, content_of}
-use Rattle.scanner.proofs.Kept.{below}
+use Rattle.std.proofs.lemmas.Bool.{cases_lt}
 use Rattle.scanner.proofs.Cuts.{before_less}
 use Rattle.scanner.proofs.Content.{Match, match_runs, match_open}
 use Rattle.recording.specs.Read.{Streams, is_stream, Fact, parsed, packets, packet_at, payload_in, fact_by, opens_at, fact_at, facts_from, read_at}
@@ -69,7 +69,7 @@ module _ (y : TsPacketLayout) (s : Streams) (room : y.sync_offset + 188 ≤ y.pa
     same_parse = parse_same (packet_at y a k) (packet_at y b k) wide wide' all
       where
         all : (j : ℕ) → j < payload_from (parse_of (packet_at y a k)) → get_or (packet_at y a k) j 0 ≡ get_or (packet_at y b k) j 0
-        all j l = go (below j 188)
+        all j l = go (cases_lt j 188)
           where
             go : (j < 188) ⊎ (188 ≤ j) → get_or (packet_at y a k) j 0 ≡ get_or (packet_at y b k) j 0
             go (inl c) =

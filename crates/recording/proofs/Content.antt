@@ -20,7 +20,7 @@ use Rattle.packet.proofs.Parsed as packet-parsed
 use Rattle.packet.proofs.Layouts.{window_length, nth_fits, payload_length}
 use Rattle.scanner.specs.declared.Runs.{Runs}
 use Rattle.scanner.specs.Unit.{Open, none, unit, next, starts, runs_in, no_runs, content_begin, content_of}
-use Rattle.scanner.proofs.Kept.{below}
+use Rattle.std.proofs.lemmas.Bool.{cases_lt}
 use Rattle.scanner.proofs.Cover.{rest_ends}
 use Rattle.scanner.proofs.Content.{no_lookahead}
 use Rattle.recording.specs.Read.{Streams, is_stream, Fact, unparsed, parsed, packets, packet_at, payload_in, fact_by, opens_at, fact_at}
@@ -128,7 +128,7 @@ payload_last y l k p is =
 
 -- byte j of a packet whose payload has len bytes from start on: n bytes of the unit came before, and its content begins at its byte c
 cut_at : (start len n c j : ℕ) → start ≤ j → j < start + len → leb c (n + (j - start)) ≡ leb (start + min len (c - n)) j
-cut_at start len n c j a b = go (below (n + (j - start)) c)
+cut_at start len n c j a b = go (cases_lt (n + (j - start)) c)
   where
     go : (n + (j - start) < c) ⊎ (c ≤ n + (j - start)) → leb c (n + (j - start)) ≡ leb (start + min len (c - n)) j
     go (inl h) = lt-leb c (n + (j - start)) h ∙ sym (lt-leb (start + min len (c - n)) j (omega arith))
@@ -149,7 +149,7 @@ module _ (r : List ℕ) (start len j : ℕ) (b : j < 188) (fits : len ≡ 188 - 
   runs t = cond t (runs_in o len) no_runs
 
   payload_content : (t : Bool) → leb start j && cond t (content_of o r len (j - start)) true ≡ leb (start + ((runs t).head + (runs t).rest)) j
-  payload_content t = go (below j start) t
+  payload_content t = go (cases_lt j start) t
     where
       go : (j < start) ⊎ (start ≤ j) → (t : Bool)
           → leb start j && cond t (content_of o r len (j - start)) true ≡ leb (start + ((runs t).head + (runs t).rest)) j

@@ -18,7 +18,7 @@ use Rattle.scanner.specs.Unit.{stamp_end, content_begin, stamp_of, runs_of, no_r
 use Rattle.scanner.specs.ByteScanner.{sizing_of, ByteScanner, byte_default, Collected, collect, ByteFed, turns, byte_feed, Fragment, Feedable, byte_runs, scanned_runs}
 use Rattle.scanner.specs.Classified.{ClassifiedRun, header_run, classified}
 use Rattle.scanner.specs.State.{idle, scanner_of, open_of, fed_of}
-use Rattle.scanner.proofs.Kept.{below}
+use Rattle.std.proofs.lemmas.Bool.{cases_lt}
 use Rattle.scanner.proofs.Cuts.{six_stamp, ordered, settled}
 use Rattle.scanner.proofs.Cover.{unfinished}
 use Rattle.scanner.proofs.Steps.{fed_is}
@@ -109,7 +109,7 @@ module _ (u p : List ℕ) (h : Bytes (u ++ p)) where
 -- an empty payload has no runs
 pub no_bytes : (v : List ℕ) → runs_of v 0 ≡ no_runs
 unfolding runs_of
-no_bytes v = go (below (length v) (stamp_end v))
+no_bytes v = go (cases_lt (length v) (stamp_end v))
   where
     go : (length v < stamp_end v) ⊎ (stamp_end v ≤ length v) → runs_of v 0 ≡ no_runs
     go (inl k) = unfinished v 0 (omega arith) k
@@ -120,7 +120,7 @@ no_bytes v = go (below (length v) (stamp_end v))
 sizing_feed : (u p : List ℕ) → Bytes (u ++ p) → length u < stamp_end u → turns (length p) (sizing_at 0 u) 0 p ≡ answer u p
 unfolding turns classified
 sizing_feed u [] h j = rw (append-nil u, byte_sizing u j, no_bytes u)
-sizing_feed u (b ∷ p) h j = go (below (length (u ++ (b ∷ p))) (stamp_end (u ++ (b ∷ p))))
+sizing_feed u (b ∷ p) h j = go (cases_lt (length (u ++ (b ∷ p))) (stamp_end (u ++ (b ∷ p))))
   where
     go : (length (u ++ (b ∷ p)) < stamp_end (u ++ (b ∷ p))) ⊎ (stamp_end (u ++ (b ∷ p)) ≤ length (u ++ (b ∷ p)))
         → turned u (b ∷ p) h (collect (sizing_at 0 u) (b ∷ p) 0) (length p) ≡ answer u (b ∷ p)
@@ -128,7 +128,7 @@ sizing_feed u (b ∷ p) h j = go (below (length (u ++ (b ∷ p))) (stamp_end (u 
     go (inr k) = end_feed u (b ∷ p) h (still_more u (b ∷ p) j) k (length p) (omega arith)
 
 unit_feed : (u p : List ℕ) → Bytes (u ++ p) → turns (length p) (byte_of (unit u)) 0 p ≡ answer u p
-unit_feed u p h = go (below (length u) (stamp_end u))
+unit_feed u p h = go (cases_lt (length u) (stamp_end u))
   where
     go : (length u < stamp_end u) ⊎ (stamp_end u ≤ length u) → turns (length p) (byte_of (unit u)) 0 p ≡ answer u p
     go (inl k) = rw (byte_sizing u k) (sizing_feed u p h k)

@@ -20,7 +20,7 @@ use Rattle.syntax.proofs.TimeStamp.{timestamp_places}
 use Rattle.syntax.proofs.Pes.{pts_10, dts_11}
 use Rattle.scanner.specs.Unit.{optional_header, pts_dts_flags, header_data_length, stamp_bytes, stamp_end_by, decode_ts_by, stamp_end, content_begin, stamp_of}
 use Rattle.scanner.specs.ByteScanner.{ts_want, ts33_at, ts_coded, Sizing, continue, resolved, sizing_of, ByteScanner, Collected, after_byte, collect}
-use Rattle.scanner.proofs.Kept.{below}
+use Rattle.std.proofs.lemmas.Bool.{cases_lt}
 use Rattle.scanner.proofs.Cuts.{optional_is, flags_is, length_is, six_stamp, nine_stamp, settled, settled_back}
 use Rattle.scanner.proofs.Cover.{short_end, short_content, short_stamp, long_content}
 
@@ -65,7 +65,7 @@ module _ (w : List ℕ) (h : Bytes w) where
 
   pub sizing_is : sizing_of w ≡ said
   unfolding sizing_of
-  sizing_is = go (below (length w) 6)
+  sizing_is = go (cases_lt (length w) 6)
     where
       long : 9 ≤ length w → optional_header w ≡ true → sizing_of w ≡ said
       long k t =
@@ -83,7 +83,7 @@ module _ (w : List ℕ) (h : Bytes w) where
 
       go : (length w < 6) ⊎ (6 ≤ length w) → sizing_of w ≡ said
       go (inl k) = rw (lt-ltb (length w) 6 k, lt-ltb (length w) (stamp_end w) (omega (arith, six_stamp w)))
-      go (inr k) = fixed k (optional_header w) refl (below (length w) 9)
+      go (inr k) = fixed k (optional_header w) refl (cases_lt (length w) 9)
 
 says_on : (w : List ℕ) → Bytes w → length w < stamp_end w → sizing_of w ≡ continue
 says_on w h k = sizing_is w h ∙ rw (lt-ltb (length w) (stamp_end w) k)
@@ -93,7 +93,7 @@ says_end w h k = sizing_is w h ∙ rw (le-ltb (length w) (stamp_end w) k)
 
 -- the first bytes of a list of bytes
 bytes_first : (u p : List ℕ) → Bytes (u ++ p) → Bytes u
-bytes_first u p h i = go (below i (length u))
+bytes_first u p h i = go (cases_lt i (length u))
   where
     go : (i < length u) ⊎ (length u ≤ i) → get_or u i 0 < 256
     go (inl k) = rw (sym (get_or-append u p 0 i k)) (h i)
@@ -132,14 +132,14 @@ module _ (q : ℕ) (u : List ℕ) (b : ℕ) (p : List ℕ) (n : ℕ) where
 
 -- a run that is not at its end is not so earlier
 still : (w p : List ℕ) → length w < stamp_end (w ++ p) → length w < stamp_end w
-still w p k = go (below (length w) (stamp_end w))
+still w p k = go (cases_lt (length w) (stamp_end w))
   where
     go : (length w < stamp_end w) ⊎ (stamp_end w ≤ length w) → length w < stamp_end w
     go (inl j) = j
     go (inr j) = absurd (let e : stamp_end w ≡ stamp_end (w ++ p) = (settled w p j).stamp_end in omega arith)
 
 pub still_more : (w p : List ℕ) → length w < stamp_end w → length w < stamp_end (w ++ p)
-still_more w p k = go (below (length w) (stamp_end (w ++ p)))
+still_more w p k = go (cases_lt (length w) (stamp_end (w ++ p)))
   where
     go : (length w < stamp_end (w ++ p)) ⊎ (stamp_end (w ++ p) ≤ length w) → length w < stamp_end (w ++ p)
     go (inl j) = j
@@ -167,7 +167,7 @@ ended n m v =
 end_step_lem : (p u : List ℕ) (b n q : ℕ) → Bytes (more u b ++ p) → length u < stamp_end (more u b ++ p)
     → (length (more u b) < stamp_end (more u b ++ p) → collect (sizing_at q (more u b)) p (suc n) ≡ ended (suc n) (length (more u b)) (more u b ++ p))
     → collect (sizing_at q u) (b ∷ p) n ≡ ended n (length u) (more u b ++ p)
-end_step_lem p u b n q h k later = go (below (length (more u b)) (stamp_end (more u b)))
+end_step_lem p u b n q h k later = go (cases_lt (length (more u b)) (stamp_end (more u b)))
   where
     go : (length (more u b) < stamp_end (more u b)) ⊎ (stamp_end (more u b) ≤ length (more u b))
         → collect (sizing_at q u) (b ∷ p) n ≡ ended n (length u) (more u b ++ p)

@@ -10,7 +10,8 @@ use lib.Dec.{ltb, leb}
 use lib.ListN.{length, get_or, length-append, get_or-append, get_or-eq_default}
 use borrow.Author.Tests.{le-leb, lt-leb}
 use Rattle.scanner.specs.Unit.{content_begin, runs_of, Open, none, unit, runs_in, starts, next, next_open, onward, content_of}
-use Rattle.scanner.proofs.Kept.{below, byte_past}
+use Rattle.std.proofs.lemmas.Bool.{cases_lt}
+use Rattle.scanner.proofs.Kept.{byte_past}
 use Rattle.scanner.proofs.Cuts.{Parts, parts, before_more, before_less}
 
 -- Two open units alike but for content: the first has the bytes r yet to come.
@@ -27,7 +28,7 @@ unfolding runs_of
 unit_runs u v r size len same = rw (len, p.stamp_end, p.content_begin, p.stamp)
   where
     all : (i : ℕ) → i < content_begin u → get_or u i 0 ≡ get_or v i 0
-    all i h = go (below i (length u))
+    all i h = go (cases_lt i (length u))
       where
         go : (i < length u) ⊎ (length u ≤ i) → get_or u i 0 ≡ get_or v i 0
         go (inl k) = same i k (before_more u r i k h)
@@ -50,7 +51,7 @@ more_same : (u v a b r : List ℕ) → length u ≡ length v → length a ≡ le
     → ((i : ℕ) → i < length u → i < content_begin (u ++ (a ++ r)) → get_or u i 0 ≡ get_or v i 0)
     → ((i : ℕ) → i < length a → content_of (unit (u ++ a)) r (length a) i ≡ false → get_or a i 0 ≡ get_or b i 0)
     → (i : ℕ) → i < length (u ++ a) → i < content_begin ((u ++ a) ++ r) → get_or (u ++ a) i 0 ≡ get_or (v ++ b) i 0
-more_same u v a b r lenu lena old new i h k = go (below i (length u))
+more_same u v a b r lenu lena old new i h k = go (cases_lt i (length u))
   where
     l : length (u ++ a) ≡ length u + length a
     l = length-append u a
@@ -88,7 +89,7 @@ match_open o q bit a b r len m same =
 -- Content is known without the bytes to come.
 pub no_lookahead : (u r : List ℕ) (size i : ℕ) → size ≤ length u → i < size
     → content_of (unit u) r size i ≡ leb (content_begin u) (length u - size + i)
-no_lookahead u r size i h k = go (below (length u - size + i) (content_begin u))
+no_lookahead u r size i h k = go (cases_lt (length u - size + i) (content_begin u))
   where
     inside : length u - size + i < length u
     inside = omega arith
@@ -96,7 +97,7 @@ no_lookahead u r size i h k = go (below (length u - size + i) (content_begin u))
     go : (length u - size + i < content_begin u) ⊎ (content_begin u ≤ length u - size + i)
         → content_of (unit u) r size i ≡ leb (content_begin u) (length u - size + i)
     go (inl j) = lt-leb _ _ (before_more u r (length u - size + i) inside j) ∙ sym (lt-leb _ _ j)
-    go (inr j) = le-leb _ _ (far (below (length u - size + i) (content_begin (u ++ r)))) ∙ sym (le-leb _ _ j)
+    go (inr j) = le-leb _ _ (far (cases_lt (length u - size + i) (content_begin (u ++ r)))) ∙ sym (le-leb _ _ j)
       where
         far : (length u - size + i < content_begin (u ++ r)) ⊎ (content_begin (u ++ r) ≤ length u - size + i) → content_begin (u ++ r) ≤ length u - size + i
         far (inl m) = absurd (let z = before_less u r (length u - size + i) inside m in omega arith)

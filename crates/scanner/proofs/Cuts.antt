@@ -22,7 +22,7 @@ use Rattle.scanner.specs.Unit.{optional_header, pts_dts_flags, header_data_lengt
 use Rattle.scanner.specs.declared.PesHeader.{PesHeader}
 use Rattle.scanner.specs.Joined.{listed}
 use Rattle.scanner.specs.State.{header_of, stamp_bytes_at}
-use Rattle.scanner.proofs.Kept.{below}
+use Rattle.std.proofs.lemmas.Bool.{cases_lt}
 
 -- the rules on the fields
 pub ordered_by : (o : Bool) (flags len : ℕ) → stamp_end_by o flags len ≤ content_begin_by o len
@@ -213,7 +213,7 @@ module _ (u r : List ℕ) where
 
   -- A place among the first bytes lies before their content exactly if it lies before the whole unit's.
   pub before_more : (i : ℕ) → i < length u → i < content_begin u → i < content_begin (u ++ r)
-  before_more i h k = go (below i (content_begin (u ++ r)))
+  before_more i h k = go (cases_lt i (content_begin (u ++ r)))
     where
       go : (i < content_begin (u ++ r)) ⊎ (content_begin (u ++ r) ≤ i) → i < content_begin (u ++ r)
       go (inl l) = l
@@ -221,7 +221,7 @@ module _ (u r : List ℕ) where
           absurd (let e : content_begin (u ++ r) ≡ content_begin u = (settled_back (omega (arith, ordered (u ++ r)))).content_begin in omega arith)
 
   pub before_less : (i : ℕ) → i < length u → i < content_begin (u ++ r) → i < content_begin u
-  before_less i h k = go (below i (content_begin u))
+  before_less i h k = go (cases_lt i (content_begin u))
     where
       go : (i < content_begin u) ⊎ (content_begin u ≤ i) → i < content_begin u
       go (inl l) = l

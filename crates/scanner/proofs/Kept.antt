@@ -1,25 +1,17 @@
 -- The bytes of the unit that a state stands for, with a payload behind them: those kept, then the payload's.
 -- Assumes nothing.
 use mathlib.Core.Path.{◌≡◌, refl, sym, ◌∙◌, ap}
-use mathlib.Core.Bool.{Bool, true, false}
 use mathlib.Core.List.{List, ◌++◌}
 use mathlib.Core.Logic.{◌⊎◌, inl, inr}
 use Prim.Native.Nat.{ℕ, ◌+◌, ◌-◌, ◌<◌, ◌≤◌}
 use native.Mathlib.Omega.{arith}
-use lib.Dec.{ltb}
 use lib.ListN.{length, get_or, replicate, length-take, length-replicate, get_or-append}
 use lib.Seq.{get_or-append-add, get_or-take}
-use borrow.Author.Tests.{lt-ltb, le-ltb, ltb-true, ltb-false}
+use borrow.Author.Tests.{lt-ltb, le-ltb}
+use Rattle.std.proofs.lemmas.Bool.{cases_lt}
 use Rattle.scanner.specs.declared.PesHeader.{PesHeader}
 use Rattle.scanner.specs.Joined.{byte_at, stamp_at}
 use Rattle.scanner.specs.State.{stamp_bytes_at, header_of, placed, unit_with}
-
-pub below : (a b : ℕ) → (a < b) ⊎ (b ≤ a)
-below a b = go (ltb a b) refl
-  where
-    go : (t : Bool) → ltb a b ≡ t → (a < b) ⊎ (b ≤ a)
-    go true e = inl (ltb-true a b e)
-    go false e = inr (ltb-false a b e)
 
 -- a byte behind the first list
 pub byte_past : (u p : List ℕ) (i : ℕ) → length u ≤ i → get_or (u ++ p) i 0 ≡ get_or p (i - length u) 0
@@ -30,7 +22,7 @@ byte_past u p i h =
 -- byte i of a unit that goes on, of which byte i is kept
 pub byte_joined : (u p : List ℕ) (i x : ℕ) → (i < length u → get_or u i 0 ≡ x) → byte_at x (length u) i p ≡ get_or (u ++ p) i 0
 unfolding byte_at
-byte_joined u p i x e = go (below i (length u))
+byte_joined u p i x e = go (cases_lt i (length u))
   where
     go : (i < length u) ⊎ (length u ≤ i) → byte_at x (length u) i p ≡ get_or (u ++ p) i 0
     go (inl h) = rw (lt-ltb _ _ h) (sym (get_or-append u p 0 i h ∙ e h))

@@ -13,7 +13,7 @@ use borrow.Author.Tests.{lt-ltb, le-ltb, le-leb}
 use Rattle.scanner.specs.Unit.{cut}
 use Rattle.scanner.specs.ByteScanner.{ByteScanner, ByteFed, turns}
 use Rattle.scanner.specs.Classified.{ClassifiedRun, header_run, payload_run, some_run}
-use Rattle.scanner.proofs.Kept.{below}
+use Rattle.std.proofs.lemmas.Bool.{cases_lt}
 use Rattle.scanner.proofs.Collect.{sized_at}
 
 -- The outer loop: nothing is left; content is left; or q bytes of the header are pending.
@@ -94,7 +94,7 @@ some_pending k [] q pos buf h j =
     let z : q - 0 ≡ q = omega arith in
     turns_nil k (sized_at q buf) pos ∙ rw (m, z)
 some_pending zero (b ∷ p) q pos buf h j = absurd (omega arith)
-some_pending (suc k) (b ∷ p) q pos buf h j = rw (lt-ltb 0 q j) (go (below q (length (b ∷ p))))
+some_pending (suc k) (b ∷ p) q pos buf h j = rw (lt-ltb 0 q j) (go (cases_lt q (length (b ∷ p))))
   where
     go : (q < length (b ∷ p)) ⊎ (length (b ∷ p) ≤ q) → goal k q pos (b ∷ p) buf j
     go (inl l) = ends_in k q pos (b ∷ p) buf j l (omega arith)
@@ -102,7 +102,7 @@ some_pending (suc k) (b ∷ p) q pos buf h j = rw (lt-ltb 0 q j) (go (below q (l
 
 pub pending_turns : (k : ℕ) (p : List ℕ) (q pos : ℕ) (buf : List ℕ) → length p ≤ k
     → turns k (sized_at q buf) pos p ≡ pending_at q pos buf (length p)
-pending_turns k p q pos buf h = go (below 0 q)
+pending_turns k p q pos buf h = go (cases_lt 0 q)
   where
     go : (0 < q) ⊎ (q ≤ 0) → turns k (sized_at q buf) pos p ≡ pending_at q pos buf (length p)
     go (inl j) = some_pending k p q pos buf h j

@@ -40,6 +40,7 @@ pub struct PesHeader {
 }
 
 // The open unit: its count of bytes, HEADER_LIMIT once its content has begun, and its header. 16 bytes without padding.
+// Fields and not an enum of the three states: each has its place in a stream's row of fixed memory (crate `rows`).
 #[derive(Clone, Copy)]
 pub struct PesScanner {
     pub count: u16,

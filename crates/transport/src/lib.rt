@@ -97,7 +97,8 @@ fn fits(runs: Runs, payload_start: usize) -> bool
         && runs.body <= 188 - payload_start - runs.head - runs.rest
 }
 
-// The payload is content alone, or has no runs. `begin` is when it begins.
+// The payload is content alone, or has no runs. `begin` is when it begins. What this and `headed` share stays as arguments: a struct of
+// them would be built and copied for each packet.
 fn plain(
     header: FluidFifo,
     body: usize,
