@@ -6,65 +6,53 @@ use error::Code;
 use profile::{TStdBranch, TStdStream};
 use report::{TStdChainStats, TStdReport, TStdViolation};
 use std::io;
-
-fn print(rt: &impl Print, word: u64) -> io::Result<()> {
-    println!(rt; "{word}")
-}
-
-fn print_len(rt: &impl Print, n: usize) -> io::Result<()> {
-    print(rt, n as u64)
-}
-
-fn print_pid(rt: &impl Print, pid: u16) -> io::Result<()> {
-    print(rt, pid as u64)
-}
+use words::Finite;
 
 fn print_all(rt: &impl Print, words: &[u64]) -> io::Result<()> {
-    let mut i = 0;
-    while i < words.len() {
-        print(rt, words[i])?;
-        i += 1;
+    for word in words {
+        println!(rt; "{word}")?;
     }
     Ok(())
 }
 
 fn print_stream(rt: &impl Print, stream: TStdStream) -> io::Result<()> {
-    let model = stream.model;
-    let branch = model.branch;
-    print_pid(rt, stream.pid)?;
-    print(rt, model.rx_bps)?;
-    match branch {
-        TStdBranch::Main { buffer_size } => { print_len(rt, buffer_size) }
+    println!(rt; "{}", stream.pid)?;
+    println!(rt; "{}", stream.model.rx_bps)?;
+    match stream.model.branch {
+        TStdBranch::Main { buffer_size } => { println!(rt; "{buffer_size}") }
         TStdBranch::Video {
             rbx_bps,
             mb_size,
             eb_size,
-        } => {
-            print(rt, rbx_bps)?;
-            print_len(rt, mb_size)?;
-            print_len(rt, eb_size)
-        }
+        } => { println!(rt; "{rbx_bps}\n{mb_size}\n{eb_size}") }
+    }
+}
+
+// The answer's word: 0 where the profile is read.
+fn word_of(profile: &[u64]) -> u64 {
+    match words::profile_of(profile) {
+        Ok(_) => 0,
+        Err(refusal) => words::answer_word(refusal.code()),
     }
 }
 
 fn print_profile(rt: &impl Print, profile: &[u64]) -> io::Result<()> {
-    let answer = words::profile_of(profile);
-    print(rt, words::answer_word(answer.code))?;
-    let config = answer.config;
-    print_pid(rt, config.pcr_pid)?;
-    print_len(rt, config.stream_count)?;
-    print_len(rt, config.system_count)?;
-    print_len(rt, config.queue_depth)?;
-    print_len(rt, config.clock_depth)?;
-    let first = config.streams[0];
-    print_stream(rt, first)?;
-    let second = config.streams[1];
-    print_stream(rt, second)?;
-    let third = config.streams[2];
-    print_stream(rt, third)?;
-    print_pid(rt, config.system_pids[1])?;
-    print_pid(rt, config.system_pids[2])?;
-    print_pid(rt, config.system_pids[3])
+    println!(rt; "{}", word_of(profile))?;
+    let Ok(config) = words::profile_of(profile) else {
+        return Ok(());
+    };
+    println!(rt; "{}", config.pcr_pid)?;
+    println!(rt; "{}", config.stream_count)?;
+    println!(rt; "{}", config.system_count)?;
+    println!(rt; "{}", config.queue_depth)?;
+    println!(rt; "{}", config.clock_depth)?;
+    for stream in &config.streams[..3] {
+        print_stream(rt, *stream)?;
+    }
+    for pid in &config.system_pids[1..4] {
+        println!(rt; "{pid}")?;
+    }
+    Ok(())
 }
 
 // A main stream, a video stream and three system PIDs; every word that does not count is 70000.
@@ -95,8 +83,7 @@ fn sample() -> [u64; 69] {
 fn print_changed(rt: &impl Print, place: usize, word: u64) -> io::Result<()> {
     let mut words = sample();
     words[place % 69] = word;
-    let answer = words::profile_of(&words);
-    print(rt, words::answer_word(answer.code))
+    println!(rt; "{}", word_of(&words))
 }
 
 fn print_rows(rt: &impl Print) -> io::Result<()> {
@@ -120,56 +107,54 @@ fn print_rows(rt: &impl Print) -> io::Result<()> {
 }
 
 fn print_report(rt: &impl Print) -> io::Result<()> {
-    let first = TStdReport::new().record(TStdViolation::DelayOverOneSecond {
-        pid: 257,
-        decode_time: 1.5,
-        delay_seconds: 2.0,
-    });
-    let one = first.report;
-    let second = one.record(TStdViolation::MainOverflow {
-        pid: 258,
-        peak_bytes: 4000,
-        limit: 3584,
-    });
-    let mut report = second.report;
-    report.pcr_samples = 5;
-    report.modelled_seconds = 1.0;
+    let one = TStdReport::new()
+        .record(TStdViolation::DelayOverOneSecond {
+            pid: 257,
+            decode_time: 1.5,
+            delay_seconds: 2.0,
+        })
+        .report;
+    let two = one
+        .record(TStdViolation::MainOverflow {
+            pid: 258,
+            peak_bytes: 4000,
+            limit: 3584,
+        })
+        .report;
+    let report = TStdReport {
+        pcr_samples: 5,
+        modelled_seconds: 1.0,
+        ..two
+    };
     let mut words = [99u64; 324];
-    words::write_report(report, &mut words);
+    words::write_report::<Finite>(report, &mut words);
     print_all(rt, &words)?;
     let mut other = [99u64; 3];
-    words::write_report(report, &mut other);
+    words::write_report::<Finite>(report, &mut other);
     print_all(rt, &other)
 }
 
 fn main(rt: HostRuntime) -> io::Result<()> {
-    print(
-        &rt,
-        words::answer_word(Code {
-            number: 10,
-            place: 98765,
-            pid: 4660,
-        }),
-    )?;
-    print(
-        &rt,
-        words::answer_word(Code {
-            number: 255,
-            place: 18446744073709551615,
-            pid: 65535,
-        }),
-    )?;
-    let profile = sample();
-    print_profile(&rt, &profile)?;
+    let full = Code {
+        number: 10,
+        place: 98765,
+        pid: 4660,
+    };
+    println!(rt; "{}", words::answer_word(full))?;
+    let far = Code {
+        number: 255,
+        place: u64::MAX,
+        pid: u16::MAX,
+    };
+    println!(rt; "{}", words::answer_word(far))?;
+    print_profile(&rt, &sample())?;
     print_changed(&rt, 0, 65536)?;
     print_changed(&rt, 1, 9)?;
     print_changed(&rt, 2, 17)?;
     print_changed(&rt, 7, 2)?;
     print_changed(&rt, 55, 65536)?;
     print_changed(&rt, 56, 65536)?;
-    let short = [0u64; 68];
-    let answer = words::profile_of(&short);
-    print(&rt, words::answer_word(answer.code))?;
+    println!(rt; "{}", word_of(&[0; 68]))?;
     print_rows(&rt)?;
     print_report(&rt)
 }
