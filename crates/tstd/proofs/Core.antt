@@ -4,15 +4,15 @@ use Rattle.std.proofs.Common.{◌≡◌, ℕ, suc, ◌+◌, ◌-◌, ◌*◌, �
 use lib.Ieee.{Float, lt}
 use Rattle.ieee.specs.Binary64.{◌⊖◌, 0f}
 use Rattle.error.specs.declared.Refusal.{Refusal}
-use Rattle.error.specs.Code.{code_of, code_numbered}
+use Rattle.error.specs.Code.{code_numbered}
 use Rattle.packet.specs.declared.TsPacketLayout.{TsPacketLayout}
-use Rattle.packet.specs.declared.Detected.{Detected}
+use Rattle.std.specs.Prelude.{Option, Some, None, Result, Ok, Err}
+use Rattle.std.specs.Option.{ok_or}
 use Rattle.packet.specs.Layout.{layout_of}
 use Rattle.packet.proofs.Layouts as layouts
 use Rattle.recording.specs.Read.{Fact, parse_in, packets, facts_from, read_at, read_of, Read}
 use Rattle.recording.proofs.Facts.{read_found, read_nothing, read_parts, facts_length}
 use Rattle.recording.proofs.Bounds.{facts_fit}
-use Rattle.arrival.specs.declared.ClockAnswer.{ClockAnswer}
 use Rattle.arrival.specs.ArrivalClock.{intervals, refused, build}
 use Rattle.arrival.specs.Samples.{samples_of}
 use Rattle.arrival.specs.Work.{holds, intervals_in}
@@ -29,7 +29,6 @@ use Rattle.answer.specs.Answer.{figures_of, accepted_answer, refused_answer}
 use Rattle.profile.specs.declared.config.TStdConfig.{TStdConfig}
 use Rattle.profile.specs.declared.limits.Limits.{Limits}
 use Rattle.profile.specs.declared.work.WorkSize.{WorkSize}
-use Rattle.profile.specs.declared.work.Checked.{Checked}
 use Rattle.profile.specs.Config.{streams_of}
 use Rattle.profile.specs.Limits.{replay_limits, within_limits}
 use Rattle.profile.specs.Work.{needed_of, covers, check_of}
@@ -44,7 +43,7 @@ use Rattle.tstd.specs.Clear.{zeroed}
 use Rattle.tstd.specs.Figures.{rows_from, system_rows}
 use Rattle.tstd.specs.Rest.{from_packet, finished}
 use Rattle.tstd.specs.Run.{Pass, pass_of, clock_of, Ready, whole, RanTo, Finished}
-use Rattle.tstd.specs.Core.{answer_for, keeps_work, outcome_of, left_of, Replayed, Fitting, ReplayedAt, queue_full, last_slots, report_in, accepted_of}
+use Rattle.tstd.specs.Core.{answer_for, keeps_work, outcome_of, left_of, answered, Replayed, Ended, Fitting, ReplayedAt, queue_full, last_slots, report_in, accepted_of}
 use Rattle.tstd.proofs.Rows.{rows_are}
 use Rattle.tstd.proofs.Cleared.{zeroed_behind, zeroed_outside}
 use Rattle.tstd.proofs.Sound.{report_lines}
@@ -132,7 +131,7 @@ module _ (c : TStdConfig) (l : List ℕ) (y : TsPacketLayout) (times : List Floa
       rw (f, g, h) refl
 
   -- ---- behind pass 1
-  module _ {built : ClockAnswer} {times' : List Float} {places' : List ℕ}
+  module _ {built : Result ℕ Refusal} {times' : List Float} {places' : List ℕ}
       (is : Answers c.clock_depth (pass_over c.pcr_pid c.clock_depth from times places (parses_from y l 0 count)) built times' places') where
     shallow : c.clock_depth ≤ 2 ^ 20
     shallow = omega (arith, fit.within.clock_depth.most)
@@ -140,7 +139,7 @@ module _ (c : TStdConfig) (l : List ℕ) (y : TsPacketLayout) (times : List Floa
     short : 188 * count < 2 ^ 63
     short = omega (arith, packets_few)
 
-    pub refused_at : {x : Refusal} → built ≡ ClockAnswer.Refused x → with_layout c read (Detected.Found y) ≡ refused_with x
+    pub refused_at : {x : Refusal} → built ≡ Err x → with_layout c read (Some y) ≡ refused_with x
     unfolding with_layout with_clock
     refused_at {x} e =
         let b : build c.clock_depth (samples_read c read) ≡ refused x =
@@ -160,11 +159,11 @@ module _ (c : TStdConfig) (l : List ℕ) (y : TsPacketLayout) (times : List Floa
         let k = build_keeps y l count c.pcr_pid c.clock_depth times from places is in
         zeroed_behind 0 _ places' places k.places_length k.places_behind
 
-    pub clock_refused : {before : TStdReport} {a : Answer} {x : Refusal} → built ≡ ClockAnswer.Refused x → a ≡ refused_answer before x → ReplayedAt c l y times places before a times' places'
-    unfolding answer_for
+    pub clock_refused : {a : Result Answer Refusal} {x : Refusal} → built ≡ Err x → a ≡ Err x → ReplayedAt c l y times places a times' places'
+    unfolding answered
     clock_refused e r = record { outcome = rw (refused_at e) r; times_are = times_kept; places_are = places_kept }
 
-    module _ (n : ℕ) (e : built ≡ ClockAnswer.Intervals n) where
+    module _ (n : ℕ) (e : built ≡ Ok n) where
       counted : Counted c.clock_depth (length (samples_of c.pcr_pid (parses_from y l 0 count))) n
       counted = build_counted y l count c.pcr_pid c.clock_depth times from places is shallow clock_room short n e
 
@@ -196,7 +195,7 @@ module _ (c : TStdConfig) (l : List ℕ) (y : TsPacketLayout) (times : List Floa
             within = rw same_count (build_bounded y l count c.pcr_pid c.clock_depth times from places is shallow clock_room short n e packets_few);
           }
 
-      pub runs_at : with_layout c read (Detected.Found y) ≡ whole pass (n + 1)
+      pub runs_at : with_layout c read (Some y) ≡ whole pass (n + 1)
       unfolding with_layout with_clock from_packet
       runs_at =
           let clock = intervals_in times' from places' 0 n in
@@ -212,32 +211,32 @@ module _ (c : TStdConfig) (l : List ℕ) (y : TsPacketLayout) (times : List Floa
         unfolding needed_of
         work_kept = zeroed_outside (outside_wider (omega arith) (omega arith) to.outside) ∙ times_kept
 
-        pub queue_refused : {before : TStdReport} {a : Answer} {x : Refusal} → ran.full ≡ true → x ≡ queue_full c ran count → a ≡ refused_answer before x
-            → ReplayedAt c l y times places before a times'' places'
-        unfolding answer_for
+        pub queue_refused : {a : Result Answer Refusal} {x : Refusal} → ran.full ≡ true → x ≡ queue_full c ran count → a ≡ Err x
+            → ReplayedAt c l y times places a times'' places'
+        unfolding answered
         queue_refused f p r = record { outcome = rw (runs_at, (to.refused f).1 (n + 1), ← p) r; times_are = work_kept; places_are = places_kept }
 
         report_is : (f : Finished pass to.ready ran times'') → report_in c ran (n + 1) ≡ report_of c (n + 1) f.state
         unfolding report_in report_of
         report_is f = rw (report_lines pass to.ready fit.within ran f.state f.reached f.at.system_tb f.at.slots, f.at.first, f.at.last) refl
 
-        accepted_is : (before : TStdReport) (f : Finished pass to.ready ran times'') → accepted_of c ran (n + 1) ≡ answer_for before (finished c (clock_of pass) (n + 1) y l count f.state)
-        unfolding accepted_of answer_for
-        accepted_is before f =
+        accepted_is : (f : Finished pass to.ready ran times'') → Ok (accepted_of c ran (n + 1)) ≡ answered (finished c (clock_of pass) (n + 1) y l count f.state)
+        unfolding accepted_of answered
+        accepted_is f =
             rw (
               report_is f,
               rows_are c f.state ran.tbs ran.mains ran.videos times'' c.queue_depth _ ran.system f.at.chains f.at.system_tb f.at.system_branch,
             )
             refl
 
-        pub passes_accepted : {before : TStdReport} {a : Answer} → ran.full ≡ false → a ≡ accepted_of c ran (n + 1) → ReplayedAt c l y times places before a times'' places'
-        passes_accepted {before} f r =
+        pub passes_accepted : {a : Answer} → ran.full ≡ false → a ≡ accepted_of c ran (n + 1) → ReplayedAt c l y times places (Ok a) times'' places'
+        passes_accepted f r =
             let x = to.finishes f in
-            record { outcome = r ∙ accepted_is before x ∙ ap (answer_for before) (sym (runs_at ∙ x.outcome (n + 1))); times_are = work_kept; places_are = places_kept }
+            record { outcome = ap Ok r ∙ accepted_is x ∙ ap answered (sym (runs_at ∙ x.outcome (n + 1))); times_are = work_kept; places_are = places_kept }
 
 -- ---- the whole replay
 
-pub checked_as : (limits : Limits) (c : TStdConfig) (lent : WorkSize) (n : ℕ) (r x : Checked) → limits ≡ replay_limits → r ≡ check_of limits c lent n → r ≡ x → check_of replay_limits c lent n ≡ x
+pub checked_as : (limits : Limits) (c : TStdConfig) (lent : WorkSize) (n : ℕ) (r x : Result WorkSize Refusal) → limits ≡ replay_limits → r ≡ check_of limits c lent n → r ≡ x → check_of replay_limits c lent n ≡ x
 checked_as limits c lent n r x e f g = rw (← e) (sym f ∙ g)
 
 module _ {A : Type 0} (z : A) (n : ℕ) (l : List A) where
@@ -247,12 +246,17 @@ module _ {A : Type 0} (z : A) (n : ℕ) (l : List A) where
   left_zeroed : (o : Outcome) → keeps_work o ≡ false → zeroed z n l ≡ left_of z o n l
   left_zeroed o e = rw e refl
 
+-- what stands for no value
+pub refused_by : {A E : Type 0} (o : Option A) (r : Result A E) (x y : E) → r ≡ ok_or o x → r ≡ Err y → y ≡ x
+refused_by None r x y e f = cc
+refused_by (Some a) r x y e f = absurd (cc)
+
 size_is : (c : TStdConfig) (l : List ℕ) → (read_of (streams_read c) l).size ≡ length l
 size_is c l = by (layout_of l) refl
   where
-    by : (d : Detected) → layout_of l ≡ d → (read_of (streams_read c) l).size ≡ length l
-    by (Detected.Found y) e = ap (λ (r : Read). r.size) (read_found (streams_read c) l y e ∙ read_parts y (streams_read c) l)
-    by Detected.Nothing e = ap (λ (r : Read). r.size) (read_nothing (streams_read c) l e)
+    by : (d : Option TsPacketLayout) → layout_of l ≡ d → (read_of (streams_read c) l).size ≡ length l
+    by (Some y) e = ap (λ (r : Read). r.size) (read_found (streams_read c) l y e ∙ read_parts y (streams_read c) l)
+    by None e = ap (λ (r : Read). r.size) (read_nothing (streams_read c) l e)
 
 module _ (l : List ℕ) (c : TStdConfig) (times : List Float) (places : List ℕ) (row_len : ℕ) where
   abbrev lent : WorkSize
@@ -261,7 +265,7 @@ module _ (l : List ℕ) (c : TStdConfig) (times : List Float) (places : List ℕ
   abbrev outcome : Outcome
   outcome = outcome_of l c (length times) (length places) row_len
 
-  checked : Checked
+  checked : Result WorkSize Refusal
   checked = check_of replay_limits c lent (length l)
 
   outcome_checked : outcome ≡ with_check c (read_of (streams_read c) l) checked
@@ -270,29 +274,29 @@ module _ (l : List ℕ) (c : TStdConfig) (times : List Float) (places : List ℕ
 
   -- numbers 1 to 3
   by_tests : (a b d : Bool) (x : Refusal)
-      → cond a (cond b (cond d (Checked.Fits (needed_of c)) (Checked.Refused Refusal.RecordingTooLong)) (Checked.Refused Refusal.WorkTooShort)) (Checked.Refused Refusal.OutsideLimits) ≡ Checked.Refused x
+      → cond a (cond b (cond d (Ok (needed_of c)) (Err Refusal.RecordingTooLong)) (Err Refusal.WorkTooShort)) (Err Refusal.OutsideLimits) ≡ Err x
       → keeps_work (refused_with x) ≡ true
-  unfolding keeps_work code_of
+  unfolding keeps_work
   by_tests true true true x e = let z : ◌≡◌ {A = ℕ} 0 1 = cc in absurd (omega arith)
   by_tests true true false x e = let z : x ≡ Refusal.RecordingTooLong = cc in rw z refl
   by_tests true false d x e = let z : x ≡ Refusal.WorkTooShort = cc in rw z refl
   by_tests false b d x e = let z : x ≡ Refusal.OutsideLimits = cc in rw z refl
 
-  check_keeps : (x : Refusal) → checked ≡ Checked.Refused x → keeps_work (refused_with x) ≡ true
+  check_keeps : (x : Refusal) → checked ≡ Err x → keeps_work (refused_with x) ≡ true
   unfolding check_of checked
   check_keeps x e = by_tests (within_limits replay_limits c) (covers lent (needed_of c)) (leb (length l) replay_limits.longest_recording) x e
 
-  refused_whole : {before : TStdReport} {a : Answer} (x : Refusal) → outcome ≡ refused_with x → keeps_work (refused_with x) ≡ true → a ≡ refused_answer before x → Replayed l c times places row_len before a times places
-  unfolding answer_for
+  refused_whole : {a : Result Answer Refusal} (x : Refusal) → outcome ≡ refused_with x → keeps_work (refused_with x) ≡ true → a ≡ Err x → Ended l c times places row_len a times places
+  unfolding answered
   refused_whole x o k r =
       let kept : keeps_work outcome ≡ true = rw o k in
       record { outcome = rw o r; times_are = left_whole 0f _ times outcome kept; places_are = left_whole 0 _ places outcome kept }
 
-  pub check_refused : {before : TStdReport} {a : Answer} {x : Refusal} → check_of replay_limits c lent (length l) ≡ Checked.Refused x → a ≡ refused_answer before x → Replayed l c times places row_len before a times places
+  pub check_refused : {a : Result Answer Refusal} {x : Refusal} → check_of replay_limits c lent (length l) ≡ Err x → a ≡ Err x → Ended l c times places row_len a times places
   unfolding with_check checked
   check_refused {x} e r = refused_whole x (outcome_checked ∙ rw e refl) (check_keeps x e) r
 
-  module _ {size : WorkSize} (passed : check_of replay_limits c lent (length l) ≡ Checked.Fits size) where
+  module _ {size : WorkSize} (passed : check_of replay_limits c lent (length l) ≡ Ok size) where
     pub passes : Passes replay_limits c lent (length l) size
     passes = fits_passes replay_limits c lent (length l) size passed
 
@@ -304,11 +308,11 @@ module _ (l : List ℕ) (c : TStdConfig) (times : List Float) (places : List ℕ
     places_fit = rw passes.needed passes.covered.places
 
     -- number 4
-    pub layout_refused : {before : TStdReport} {a : Answer} → layout_of l ≡ Detected.Nothing → a ≡ refused_answer before Refusal.NoPacketLayout → Replayed l c times places row_len before a times places
-    unfolding with_check with_layout keeps_work code_of checked
+    pub layout_refused : {a : Result Answer Refusal} → layout_of l ≡ None → a ≡ Err Refusal.NoPacketLayout → Ended l c times places row_len a times places
+    unfolding with_check with_layout keeps_work checked
     layout_refused e r = refused_whole Refusal.NoPacketLayout (outcome_checked ∙ rw (passed, read_nothing (streams_read c) l e) refl) refl r
 
-    module _ (y : TsPacketLayout) (found : layout_of l ≡ Detected.Found y) where
+    module _ (y : TsPacketLayout) (found : layout_of l ≡ Some y) where
       pub fitting : length c.streams ≡ 8 → Fitting c l y times places
       fitting slots =
           record {
@@ -320,15 +324,15 @@ module _ (l : List ℕ) (c : TStdConfig) (times : List Float) (places : List ℕ
             found = found;
           }
 
-      outcome_at : outcome ≡ with_layout c (read_of (streams_read c) l) (Detected.Found y)
+      outcome_at : outcome ≡ with_layout c (read_of (streams_read c) l) (Some y)
       unfolding with_check checked
       outcome_at =
-          let e : (read_of (streams_read c) l).layout ≡ Detected.Found y = ap (λ (r : Read). r.layout) (read_found (streams_read c) l y found ∙ read_parts y (streams_read c) l) in
+          let e : (read_of (streams_read c) l).layout ≡ Some y = ap (λ (r : Read). r.layout) (read_found (streams_read c) l y found ∙ read_parts y (streams_read c) l) in
           outcome_checked ∙ rw (passed, e) refl
 
       -- none of the numbers 1 to 4
       clears_by : (o : Outcome) → outcome ≡ o → keeps_work o ≡ false
-      unfolding keeps_work code_of
+      unfolding keeps_work
       clears_by (accepted r fs) e = refl
       clears_by (refused_with Refusal.OutsideLimits) e =
           let h : within_limits replay_limits c ≡ false = (refused_iff replay_limits c lent l Refusal.OutsideLimits).0 e in
@@ -351,13 +355,34 @@ module _ (l : List ℕ) (c : TStdConfig) (times : List Float) (places : List ℕ
       clears_by (refused_with (Refusal.RateOutsideLimits n)) e = refl
       clears_by (refused_with (Refusal.QueueFull k pid)) e = refl
 
-      pub replayed_found : {before : TStdReport} {a : Answer} {times' times'' : List Float} {places' places'' : List ℕ} → ReplayedAt c l y times places before a times' places'
-          → times'' ≡ zeroed 0f size.times times' → places'' ≡ zeroed 0 size.places places' → Replayed l c times places row_len before a times'' places''
-      replayed_found {before} at t p =
+      pub replayed_found : {a : Result Answer Refusal} {times' times'' : List Float} {places' places'' : List ℕ} → ReplayedAt c l y times places a times' places'
+          → times'' ≡ zeroed 0f size.times times' → places'' ≡ zeroed 0 size.places places' → Ended l c times places row_len a times'' places''
+      replayed_found at t p =
           let kept = clears_by outcome refl in
           let n = passes.needed in
           record {
-            outcome = at.outcome ∙ ap (answer_for before) (sym outcome_at);
+            outcome = at.outcome ∙ ap answered (sym outcome_at);
             times_are = t ∙ rw n at.times_are ∙ left_zeroed 0f _ times outcome kept;
             places_are = p ∙ rw n at.places_are ∙ left_zeroed 0 _ places outcome kept;
           }
+
+-- a refusal takes the report as it was
+module _ (before : TStdReport) where
+  accepted_for : {a : Answer} (o : Outcome) → Ok a ≡ answered o → a ≡ answer_for before o
+  unfolding answered answer_for
+  accepted_for (accepted r fs) e = cc
+  accepted_for (refused_with x) e = absurd (cc)
+
+  refused_for : {x : Refusal} (o : Outcome) → Err x ≡ answered o → refused_answer before x ≡ answer_for before o
+  unfolding answered answer_for
+  refused_for (accepted r fs) e = absurd (cc)
+  refused_for {x} (refused_with y) e =
+      let same : x ≡ y = cc in
+      ap (refused_answer before) same
+
+  module _ {l : List ℕ} {c : TStdConfig} {times times' : List Float} {places places' : List ℕ} {row_len : ℕ} {r : Result Answer Refusal} (x : Ended l c times places row_len r times' places') where
+    pub ended_accepted : {a : Answer} → r ≡ Ok a → Replayed l c times places row_len before a times' places'
+    ended_accepted e = record { outcome = accepted_for _ (sym e ∙ x.outcome); times_are = x.times_are; places_are = x.places_are }
+
+    pub ended_refused : {y : Refusal} {a : Answer} → r ≡ Err y → a ≡ refused_answer before y → Replayed l c times places row_len before a times' places'
+    ended_refused e f = record { outcome = f ∙ refused_for _ (sym e ∙ x.outcome); times_are = x.times_are; places_are = x.places_are }

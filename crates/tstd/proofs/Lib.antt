@@ -5,7 +5,6 @@ pub mod ChainIs
 pub mod Moments
 pub mod Owning
 pub mod Skipping
-pub mod Streams
 pub mod Rows
 pub mod Cleared
 pub mod Going

@@ -5,6 +5,7 @@ use lib.Ieee.{Float}
 use Rattle.profile.proofs.Ranges.{and_left}
 use Rattle.error.specs.declared.Refusal.{Refusal}
 use Rattle.packet.specs.Packet.{parse_of}
+use Rattle.std.specs.Prelude.{Option, None}
 use Rattle.header.specs.declared.PacketHeader.{PacketHeader}
 use Rattle.header.specs.Header.{header_of}
 use Rattle.header.proofs.Headers.{parsed_packet, unparsed_fails}
@@ -172,7 +173,7 @@ module _ (g : Pass) (ready : Ready g) (k at : ℕ) (isFull : Bool) (w : List Flo
 -- packets that no chain takes, behind one another
 module _ (g : Pass) (ready : Ready g) (isFull : Bool) (w : List Float) (ts : List FluidFifo) (ss : List PesScanner) (ms : List MainBranch) (vs : List VideoBranch) (system : SystemChain) (sl : Slots) (owners : List ℕ)
     (is-owners : OwnersOf (pids_of g.config) owners) where
-  header_at : (k at : ℕ) {t : Times} (L : Looping g ready k at isFull w ts ss ms vs system t sl) (x : PacketHeader) → header_of (parse_of (window_at g.recording at)) ≡ x
+  header_at : (k at : ℕ) {t : Times} (L : Looping g ready k at isFull w ts ss ms vs system t sl) (x : Option PacketHeader) → header_of (parse_of (window_at g.recording at)) ≡ x
       → header_of (parse_of (packet_at g.layout g.recording k)) ≡ x
   header_at k at L x e = ap (λ (l : List ℕ). header_of (parse_of l)) (sym (window_is g k at L.placed)) ∙ e
 
@@ -182,8 +183,8 @@ module _ (g : Pass) (ready : Ready g) (isFull : Bool) (w : List Float) (ts : Lis
   free_turns : (k at : ℕ) (t : Times) (L : Looping g ready k at isFull w ts ss ms vs system t sl) → k < g.count → SameInterval t.arrival → IsFree owners (window_at g.recording at)
       → Turned g ready k L.state w ts ss ms vs system (free_times t) sl
   free_turns k at t L h i x =
-      let q = parsed_packet _ (header_at k at L _ x.header) in
-      let o : owner_of g.config q.packet.pid ≡ Owner.Nobody = rw (← q.pid_is) (sym (pids_owner g.config x.pid) ∙ is-owners.nobodys x.pid x.small x.nobodys) in
+      let q = parsed_packet _ (header_at k at L _ x.is) in
+      let o : owner_of g.config q.packet.pid ≡ Owner.Nobody = rw (← q.pid_is) (sym (pids_owner g.config x.header.pid) ∙ is-owners.nobodys x.header.pid x.small x.nobodys) in
       let m = free_moment q.packet.payload_unit_start q.packet.payload_start in
       let p : PacketIs g k m = record { packet = q.packet; parse = q.is; moment = rw o refl } in
       let next : free_times t ≡ next_times m (next_arrival w (clock_from g) g.places (suc g.last) t.arrival) t =
@@ -195,12 +196,12 @@ module _ (g : Pass) (ready : Ready g) (isFull : Bool) (w : List Float) (ts : Lis
   unparsed_turn : (k at : ℕ) (t : Times) (L : Looping g ready k at isFull w ts ss ms vs system t sl) → k < g.count → SameInterval t.arrival → IsUnparsed (window_at g.recording at)
       → Turned g ready k L.state w ts ss ms vs system (unparsed_times t) sl
   unparsed_turn k at t L h i x =
-      let m = packet_moment (pids_of g.config) PacketHeader.Unparsed in
+      let m = packet_moment (pids_of g.config) None in
       let next : unparsed_times t ≡ next_times m (next_arrival w (clock_from g) g.places (suc g.last) t.arrival) t =
       sym
       (next_unparsed m (next_arrival w (clock_from g) g.places (suc g.last) t.arrival) t refl refl
       ∙ rw (within_next w (clock_from g) g.places (suc g.last) t.arrival i) refl) in
-      unparsed_turns g ready k w ts ss ms vs system t (unparsed_times t) sl L.state m L.now next h (unparsed_fails _ (header_at k at L _ x.header)) refl refl
+      unparsed_turns g ready k w ts ss ms vs system t (unparsed_times t) sl L.state m L.now next h (unparsed_fails _ (header_at k at L _ x.is)) refl refl
 
   pub skips_loop : {c : Times} {at₀ k₀ : ℕ} {t : Times} {at k : ℕ} → Passing g.recording g.layout.packet_size g.count owners c at₀ k₀ t at k
       → Looping g ready (k₀ + 1) (at₀ + g.layout.packet_size) isFull w ts ss ms vs system c sl

@@ -1,6 +1,7 @@
 -- What a step of pass 2 is about, the times behind it and what its transport buffer gives, by cases.
 -- Assumes nothing.
-use Rattle.std.proofs.Common.{◌≡◌, ℕ, ◌+◌, ◌-◌, ◌<◌, ◌≤◌, Bool, true, false, List, sym, refl, ap, ◌∙◌, true≢false, le-leb}
+use Rattle.std.proofs.Common.{◌≡◌, ℕ, ◌+◌, ◌-◌, ◌<◌, ◌≤◌, true, false, List, sym, refl, ap, ◌∙◌, true≢false, le-leb}
+use Rattle.std.specs.Prelude.{Option, Some, None}
 use borrow.Author.Tests.{lt-leb}
 use lib.Ieee.{lt}
 use Rattle.ieee.specs.Binary64.{◌⊕◌, 0f, 1f, 512f, 1e-6f}
@@ -40,18 +41,18 @@ module _ (p : Pids) (w : List ℕ) (count k : ℕ) where
   moment_packet h = rw (lt-leb count k h)
 
   -- by what the header's read gave
-  pub moment_unparsed : (x : PacketHeader) → k < count → x ≡ header_of (parse_of w) → x ≡ PacketHeader.Unparsed
-      → moment_of p w count k ≡ packet_moment p PacketHeader.Unparsed
+  pub moment_unparsed : (x : Option PacketHeader) → k < count → x ≡ header_of (parse_of w) → x ≡ None
+      → moment_of p w count k ≡ packet_moment p None
   moment_unparsed x h r e = moment_packet h ∙ ap (packet_moment p) (sym r ∙ e)
 
-  pub moment_parsed : (x : PacketHeader) (pid start : ℕ) (bit : Bool) (i : ℕ) → k < count → x ≡ header_of (parse_of w) → x ≡ PacketHeader.Parsed pid bit start
-      → i ≡ owner_index (owner_by p pid)
-      → moment_of p w count k ≡ record { end = false; parsed = true; owner = i; payload_start = start; payload_unit_start = bit }
-  moment_parsed x pid start bit i h r e g = moment_packet h ∙ (ap (packet_moment p) (sym r ∙ e) ∙ rw g)
+  pub moment_parsed : (x : Option PacketHeader) (y : PacketHeader) (i : ℕ) → k < count → x ≡ header_of (parse_of w) → x ≡ Some y
+      → i ≡ owner_index (owner_by p y.pid)
+      → moment_of p w count k ≡ record { end = false; parsed = true; owner = i; payload_start = y.payload_start; payload_unit_start = y.payload_unit_start }
+  moment_parsed x y i h r e g = moment_packet h ∙ (ap (packet_moment p) (sym r ∙ e) ∙ rw g)
 
 -- a PID has 13 bits
-pub pid_small : (w : List ℕ) (x : PacketHeader) (pid start : ℕ) (bit : Bool) → x ≡ header_of (parse_of w) → x ≡ PacketHeader.Parsed pid bit start → pid < 8192
-pid_small w x pid start bit r e =
+pub pid_small : (w : List ℕ) (x : Option PacketHeader) (y : PacketHeader) → x ≡ header_of (parse_of w) → x ≡ Some y → y.pid < 8192
+pid_small w x y r e =
     let q = parsed_packet (parse_of w) (sym r ∙ e) in
     rw q.pid_is (packet-bounds.parsed w q.packet q.is).pid_small
 

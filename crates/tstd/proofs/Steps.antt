@@ -2,13 +2,13 @@
 use Rattle.std.proofs.Common.{◌≡◌, ℕ, suc, ◌+◌, ◌-◌, ◌*◌, ◌/◌, ◌^◌, ◌<◌, ◌≤◌, Bool, true, false, cond, leb, List, [], length, get_or, take, drop, refl, ap, ◌∙◌, mul-le-mul_left, div-mul-le_self, arith, length-take, get_or-take, le-ltb, lt-ltb, leb-false, leb-true}
 use lib.Ieee.{Float}
 use Rattle.packet.specs.declared.TsPacket.{TsPacket}
-use Rattle.packet.specs.declared.Parse.{Parse}
+use Rattle.packet.specs.declared.TsError.{TsError}
+use Rattle.std.specs.Prelude.{None, Result, Ok, Err}
 use Rattle.packet.specs.declared.TsPacketLayout.{TsPacketLayout}
 use Rattle.packet.specs.Packet.{parse_of}
 use Rattle.packet.specs.Layout.{window_of}
-use Rattle.header.specs.declared.PacketHeader.{PacketHeader}
 use Rattle.header.specs.Header.{header_of}
-use Rattle.header.proofs.Headers.{Fails, is_truncated, is_bad_sync}
+use Rattle.header.proofs.Headers.{Fails}
 use Rattle.recording.specs.Read.{unparsed, packet_at, opens_at, fact_at, fact_by}
 use Rattle.recording.proofs.Facts.{opens_by, fact_by_lem}
 use Rattle.arrival.specs.declared.PacketArrival.{PacketArrival}
@@ -39,21 +39,20 @@ window_is g k at e =
 
 pub record PacketIs (g : Pass) (k : ℕ) (m : Moment) : Type 0 where
   pub packet : TsPacket
-  pub parse : parse_of (packet_at g.layout g.recording k) ≡ Parse.Packet packet
+  pub parse : parse_of (packet_at g.layout g.recording k) ≡ Ok packet
   pub moment : m
       ≡ record { end = false; parsed = true; owner = owner_index (owner_of g.config packet.pid); payload_start = packet.payload_start; payload_unit_start = packet.payload_unit_start }
 
 pub data MomentIs (g : Pass) (k : ℕ) (m : Moment) : Type 0 where
   at_end : g.count ≤ k → m ≡ end_moment (k - g.count) → MomentIs g k m
-  at_unparsed : k < g.count → Fails (parse_of (packet_at g.layout g.recording k)) → m ≡ packet_moment (pids_of g.config) PacketHeader.Unparsed → MomentIs g k m
+  at_unparsed : k < g.count → Fails (parse_of (packet_at g.layout g.recording k)) → m ≡ packet_moment (pids_of g.config) None → MomentIs g k m
   at_packet : k < g.count → PacketIs g k m → MomentIs g k m
 
 module _ (g : Pass) (k : ℕ) (m : Moment) where
-  by_parse : k < g.count → (p : Parse) → parse_of (packet_at g.layout g.recording k) ≡ p → m ≡ packet_moment (pids_of g.config) (header_of p) → MomentIs g k m
+  by_parse : k < g.count → (p : Result TsPacket TsError) → parse_of (packet_at g.layout g.recording k) ≡ p → m ≡ packet_moment (pids_of g.config) (header_of p) → MomentIs g k m
   unfolding header_of
-  by_parse h (Parse.Packet x) e f = at_packet h (record { packet = x; parse = e; moment = rw (← pids_owner g.config x.pid) f })
-  by_parse h (Parse.Truncated a b) e f = at_unparsed h (is_truncated e) f
-  by_parse h (Parse.BadSyncByte b) e f = at_unparsed h (is_bad_sync e) f
+  by_parse h (Ok x) e f = at_packet h (record { packet = x; parse = e; moment = rw (← pids_owner g.config x.pid) f })
+  by_parse h (Err x) e f = at_unparsed h (record { error = x; is = e }) f
 
   by_count : (t : Bool) → leb g.count k ≡ t → m ≡ moment_of (pids_of g.config) (packet_at g.layout g.recording k) g.count k → MomentIs g k m
   unfolding moment_of
@@ -125,12 +124,10 @@ module _ (g : Pass) (k : ℕ) (s : State) where
   -- an unparsed packet
   pub unparsed_fact : Fails (parse_of (packet_at g.layout g.recording k)) → fact_at g.layout (streams_read g.config) g.recording k ≡ unparsed
   unfolding fact_by
-  unparsed_fact (is_truncated e) = fact_by_lem g.layout g.recording k (streams_read g.config) _ e
-  unparsed_fact (is_bad_sync e) = fact_by_lem g.layout g.recording k (streams_read g.config) _ e
+  unparsed_fact f = fact_by_lem g.layout g.recording k (streams_read g.config) _ f.is
 
   pub unparsed_opens : Fails (parse_of (packet_at g.layout g.recording k)) → (x : ℕ) → opens_at g.layout g.recording (suc k) x ≡ opens_at g.layout g.recording k x
-  unparsed_opens (is_truncated e) x = opens_by g.layout g.recording k _ x e
-  unparsed_opens (is_bad_sync e) x = opens_by g.layout g.recording k _ x e
+  unparsed_opens f x = opens_by g.layout g.recording k _ x f.is
 
   pub step_unparsed : k < g.count → Fails (parse_of (packet_at g.layout g.recording k)) → step_of g k s ≡ running s
   unfolding fact_step

@@ -1,11 +1,10 @@
 -- The replay of a recording as the code gives it: the answer that the definition's outcome is, and what the lent work then holds.
-use Rattle.std.specs.Prelude.{◌≡◌, ℕ, ◌^◌, ◌≤◌, min, Bool, false, cond, List, ◌++◌, length, ◌==◌, nat_le, Float}
+use Rattle.std.specs.Prelude.{◌≡◌, ℕ, ◌^◌, ◌≤◌, min, Bool, false, cond, List, ◌++◌, length, ◌==◌, nat_le, Float, Some, Result, Ok, Err}
 use Rattle.std.specs.Float.Ieee.{lt}
 use Rattle.ieee.specs.Binary64.{◌⊖◌, 0f}
 use Rattle.error.specs.declared.Refusal.{Refusal}
 use Rattle.error.specs.Code.{code_of}
 use Rattle.packet.specs.declared.TsPacketLayout.{TsPacketLayout}
-use Rattle.packet.specs.declared.Detected.{Detected}
 use Rattle.packet.specs.Layout.{layout_of}
 use Rattle.recording.specs.Read.{read_of}
 use Rattle.events.specs.Slots.{Slots, slots, noted_all}
@@ -25,6 +24,10 @@ use Rattle.tstd.specs.Clear.{zeroed}
 use Rattle.tstd.specs.Figures.{rows_from, system_rows}
 
 -- ---- the contract of `replay`
+
+unfoldable pub answered : Outcome → Result Answer Refusal
+answered (accepted r fs) = Ok (accepted_answer r fs)
+answered (refused_with x) = Err x
 
 -- a refusal leaves the report as it was before
 unfoldable pub answer_for : TStdReport → Outcome → Answer
@@ -51,6 +54,12 @@ pub record Replayed (l : List ℕ) (c : TStdConfig) (times : List Float) (places
   pub times_are : times' ≡ left_of 0f (outcome_of l c (length times) (length places) row_len) (needed_of c).times times
   pub places_are : places' ≡ left_of 0 (outcome_of l c (length times) (length places) row_len) (needed_of c).places places
 
+-- the same before a refusal takes the report
+pub record Ended (l : List ℕ) (c : TStdConfig) (times : List Float) (places : List ℕ) (row_len : ℕ) (answer : Result Answer Refusal) (times' : List Float) (places' : List ℕ) : Type 0 where
+  pub outcome : answer ≡ answered (outcome_of l c (length times) (length places) row_len)
+  pub times_are : times' ≡ left_of 0f (outcome_of l c (length times) (length places) row_len) (needed_of c).times times
+  pub places_are : places' ≡ left_of 0 (outcome_of l c (length times) (length places) row_len) (needed_of c).places places
+
 -- ---- behind the checks, at the layout that is found
 
 pub record Fitting (c : TStdConfig) (l : List ℕ) (y : TsPacketLayout) (times : List Float) (places : List ℕ) : Type 0 where
@@ -59,12 +68,12 @@ pub record Fitting (c : TStdConfig) (l : List ℕ) (y : TsPacketLayout) (times :
   pub times_fit : (needed_of c).times ≤ length times
   pub places_fit : (needed_of c).places ≤ length places
   pub long : length l ≤ 2 ^ 24
-  pub found : layout_of l ≡ Detected.Found y
+  pub found : layout_of l ≡ Some y
 
 -- what the replay needs of the work is left to be cleared
-pub record ReplayedAt (c : TStdConfig) (l : List ℕ) (y : TsPacketLayout) (times : List Float) (places : List ℕ) (before : TStdReport) (answer : Answer) (times' : List Float) (places' : List ℕ)
+pub record ReplayedAt (c : TStdConfig) (l : List ℕ) (y : TsPacketLayout) (times : List Float) (places : List ℕ) (answer : Result Answer Refusal) (times' : List Float) (places' : List ℕ)
     : Type 0 where
-  pub outcome : answer ≡ answer_for before (with_layout c (read_of (streams_read c) l) (Detected.Found y))
+  pub outcome : answer ≡ answered (with_layout c (read_of (streams_read c) l) (Some y))
   pub times_are : zeroed 0f (needed_of c).times times' ≡ zeroed 0f (needed_of c).times times
   pub places_are : zeroed 0 (needed_of c).places places' ≡ zeroed 0 (needed_of c).places places
 

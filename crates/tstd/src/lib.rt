@@ -12,13 +12,12 @@ mod stream;
 ghost use Rattle.std.specs.Prelude.{◌≡◌, ◌<◌, ◌≤◌, if◌then◌else◌};
 ghost use Rattle.std.specs.Float.Ieee.{lt};
 ghost use Rattle.ieee.specs.Binary64.{◌⊖◌, 0f};
-ghost use Rattle.tstd.specs.Core.{accepted_of, queue_full, Fitting, ReplayedAt, Replayed};
+ghost use Rattle.tstd.specs.Core.{accepted_of, queue_full, Fitting, ReplayedAt, Ended, Replayed};
 
 use answer::Answer;
-use arrival::ClockAnswer;
 use error::{Code, Refusal};
-use packet::{Detected, TsPacketLayout};
-use profile::{Checked, Limits, TStdConfig, WorkSize};
+use packet::TsPacketLayout;
+use profile::{Limits, TStdConfig, WorkSize};
 use report::TStdReport;
 use run::Ran;
 
@@ -74,14 +73,13 @@ fn replay_at(
     config: TStdConfig,
     times: &mut [f64],
     places: &mut [u64],
-    report: TStdReport,
-) -> Answer
+) -> Result<Answer, Refusal>
     requires { Fitting config bytes.now layout times.old places.old }
-    ensures { ReplayedAt config bytes.now layout times.old places.old report result times.new places.new }
+    ensures { ReplayedAt config bytes.now layout times.old places.old result times.new places.new }
 {
     let count = bytes.len() / layout.packet_size;
     let from = 8 * config.queue_depth * config.stream_count;
-    match arrival_clock::build(
+    let n = arrival_clock::build(
         bytes,
         layout,
         count,
@@ -90,16 +88,35 @@ fn replay_at(
         times,
         from,
         places,
-    ) {
-        ClockAnswer::Refused(x) => Answer::refused(report, x),
-        ClockAnswer::Intervals(n) => {
-            let ran = run::run(config, bytes, layout, count, times, places, n);
-            if ran.full {
-                return Answer::refused(report, queue_full(config, ran, count));
-            }
-            accepted(config, ran, n + 1)
-        }
+    )?;
+    let ran = run::run(config, bytes, layout, count, times, places, n);
+    if ran.full {
+        return Err(queue_full(config, ran, count));
     }
+    Ok(accepted(config, ran, n + 1))
+}
+
+// The checks, both passes, and the work cleared. The lent report does not enter.
+fn outcome(
+    bytes: &[u8],
+    config: TStdConfig,
+    times: &mut [f64],
+    places: &mut [u64],
+    row_len: usize,
+) -> Result<Answer, Refusal>
+    ensures { Ended bytes.now config times.old places.old row_len result times.new places.new }
+{
+    let lent = WorkSize {
+        times: times.len(),
+        places: places.len(),
+        row: row_len,
+    };
+    let needed = profile::check(config, Limits::replay(), lent, bytes.len())?;
+    let layout = packet::detect_packet_layout(bytes).ok_or(Refusal::NoPacketLayout)?;
+    let answer = replay_at(bytes, layout, config, times, places);
+    times[..needed.times].fill(0.0);
+    places[..needed.places].fill(0);
+    answer
 }
 
 // The report is the replay's where number 0 is answered, else the one lent; row_len is the length of the row that the figures are for.
@@ -115,25 +132,8 @@ pub fn replay(
 ) -> Answer
     ensures { Replayed bytes.now config times.old places.old row_len report result times.new places.new }
 {
-    let lent = WorkSize {
-        times: times.len(),
-        places: places.len(),
-        row: row_len,
-    };
-    let checked = profile::check(config, Limits::replay(), lent, bytes.len());
-    match checked {
-        Checked::Refused(x) => Answer::refused(report, x),
-        Checked::Fits(needed) => {
-            let detected = packet::detect_packet_layout(bytes);
-            match detected {
-                Detected::Nothing => Answer::refused(report, Refusal::NoPacketLayout),
-                Detected::Found(layout) => {
-                    let answer = replay_at(bytes, layout, config, times, places, report);
-                    times[..needed.times].fill(0.0);
-                    places[..needed.places].fill(0);
-                    answer
-                }
-            }
-        }
+    match outcome(bytes, config, times, places, row_len) {
+        Ok(answer) => answer,
+        Err(refusal) => Answer::refused(report, refusal),
     }
 }

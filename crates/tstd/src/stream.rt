@@ -43,20 +43,14 @@ pub(crate) fn models(config: TStdConfig) -> [StreamModel; 8]
     ensures { ModelsOf config.streams config.queue_depth 8 result }
 {
     let depth = config.queue_depth;
-    let mut models = [stream_model(config.streams[0], 0, depth); 8];
-    for i in 0..8 {
-        models[i] = stream_model(config.streams[i], 8 * depth * i, depth);
-    }
-    models
+    std::array::from_fn(|i| stream_model(config.streams[i], 8 * depth * i, depth))
 }
 
 // The transport buffers before any packet.
 pub(crate) fn tbs(config: TStdConfig) -> [FluidFifo; 8]
     ensures { TbsOf config.streams 8 result }
 {
-    let mut tbs = [FluidFifo::new(0); 8];
-    for i in 0..8 {
-        tbs[i] = FluidFifo::new(config.streams[i].model.rx_bps);
-    }
-    tbs
+    config
+        .streams
+        .map(|stream| FluidFifo::new(stream.model.rx_bps))
 }

@@ -1,5 +1,6 @@
 -- `replay_at` meets its contract. Assumes nothing.
-use Rattle.std.proofs.Common.{◌∙◌, arith}
+use Rattle.std.proofs.Common.{refl, ap, ◌∙◌, Err, arith}
+use Rattle.std.proofs.lemmas.Result.{err_from_is_err_and}
 use Rattle.tstd.proofs.Core.{size_some, from_few, clock_refused, some_intervals, intervals_few, ready, queue_refused, passes_accepted}
 use Rattle.tstd.proofs.replay_at.Goals as goal
 
@@ -13,38 +14,31 @@ pub run-ran-requires : goal.run-ran-requires
 run-ran-requires c =
     let fits = c.requires in
     let is = c.build.ensures in
-    (some_intervals _ _ _ _ _ fits is _ c.in-Intervals.is, ready _ _ _ _ _ fits is _ c.in-Intervals.is)
+    (some_intervals _ _ _ _ _ fits is _ c.in_ok-n.was, ready _ _ _ _ _ fits is _ c.in_ok-n.was)
 
 pub queue_full-requires : goal.queue_full-requires
 queue_full-requires c = (c.run-ran.ensures.refused c.if-ran.true).0
 
-pub shape_of-times-then-ran : goal.shape_of-times-then-ran
-shape_of-times-then-ran c = c.times-in-Intervals-1.given ∙ c.times-1.given
-
-pub shape_of-places-then-ran : goal.shape_of-places-then-ran
-shape_of-places-then-ran c = c.places-1.given
-
 pub returns-then-ran : goal.returns-then-ran
 returns-then-ran c =
-    queue_refused _ _ _ _ _ c.requires c.build.ensures _ c.in-Intervals.is
+    queue_refused _ _ _ _ _ c.requires c.build.ensures _ c.in_ok-n.was
     c.run-ran.ensures
     c.if-ran.true
     c.queue_full.ensures
-    c.refused-then-ran.ensures
+    refl
 
 pub overflow_add-n : goal.overflow_add-n
 overflow_add-n c =
-    omega (arith, intervals_few _ _ _ _ _ c.requires c.build.ensures _ c.in-Intervals.is)
+    omega (arith, intervals_few _ _ _ _ _ c.requires c.build.ensures _ c.in_ok-n.was)
 
-pub returns-in-Refused : goal.returns-in-Refused
-returns-in-Refused c = clock_refused _ _ _ _ _ c.requires c.build.ensures c.in-Refused.is c.refused.ensures
+pub returns-in_err-n : goal.returns-in_err-n
+returns-in_err-n c =
+    let e = err_from_is_err_and c.from_residual.result c.from_residual.ensures.1 in
+    clock_refused _ _ _ _ _ c.requires c.build.ensures c.in_err-n.was (e.1 ∙ ap Err e.2)
 
-pub shape_of-times-else-ran : goal.shape_of-times-else-ran
-shape_of-times-else-ran c = c.times-in-Intervals-1.given ∙ c.times-1.given
-
-pub returns-else-ran : goal.returns-else-ran
-returns-else-ran c =
-    passes_accepted _ _ _ _ _ c.requires c.build.ensures _ c.in-Intervals.is
+pub returns : goal.returns
+returns c =
+    passes_accepted _ _ _ _ _ c.requires c.build.ensures _ c.in_ok-n.was
     c.run-ran.ensures
     c.if-ran.false
     c.accepted.ensures

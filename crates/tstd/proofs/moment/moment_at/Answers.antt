@@ -6,12 +6,12 @@ use Rattle.tstd.proofs.moment.moment_at.Goals as goal
 pub returns-then-count-k : goal.returns-then-count-k
 returns-then-count-k c p o = sym (moment_end _ _ _ _ c.if-count-k.true)
 
-pub returns-in-Unparsed : goal.returns-in-Unparsed
-returns-in-Unparsed c p o = sym (moment_unparsed _ _ _ _ _ c.if-count-k.false c.read.ensures c.in-Unparsed.is)
+pub returns-in_default : goal.returns-in_default
+returns-in_default c p o = sym (moment_unparsed _ _ _ _ _ c.if-count-k.false c.read.ensures c.in_default.is)
 
-pub returns-in-Parsed : goal.returns-in-Parsed
-returns-in-Parsed c p o =
+pub returns : goal.returns
+returns c p o =
     let header = c.read.ensures in
-    let is = c.in-Parsed.is in
-    let small = pid_small _ _ _ _ _ header is in
-    sym (moment_parsed _ _ _ _ _ _ _ _ _ c.if-count-k.false header is (c.owner_of.ensures small ∙ o.index _ small))
+    let is = c.in-Some.is in
+    let small = pid_small _ _ _ header is in
+    sym (moment_parsed _ _ _ _ _ _ _ c.if-count-k.false header is (c.owner_of.ensures small ∙ o.index _ small))
