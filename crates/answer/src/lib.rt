@@ -8,6 +8,7 @@ use error::{Code, Refusal};
 use report::{TStdChainStats, TStdReport};
 
 // One record per stream, one more if there are system PIDs: 9 at most, of which the first count are in use.
+// An array with a count, since a replay allocates nothing.
 #[derive(Clone, Copy)]
 pub struct Figures {
     pub rows: [TStdChainStats; 9],

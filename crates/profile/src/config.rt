@@ -1,6 +1,6 @@
 // The configuration of one replay: the Rust's TStdConfig, with depths, which the Rust's queues do not have. Slots past
-// stream_count and system_count are not looked at. The builders refuse nothing: a result outside the limits, as a model
-// of video_low_main_level can be, is left to the replay.
+// stream_count and system_count are not looked at: arrays with a count, since a replay allocates nothing. The builders
+// refuse nothing: a result outside the limits, as a model of video_low_main_level can be, is left to the replay.
 ghost use Rattle.std.specs.Prelude.{◌≡◌};
 ghost use Rattle.profile.specs.Config.{stream_ok, default_config, with_pcr_pid, with_streams, with_system_pids, with_queue_depth, with_clock_depth, single_program};
 

@@ -15,7 +15,7 @@ pub struct ViolationLine {
     pub violation: TStdViolation,
 }
 
-// The first violation_count lines are in use.
+// The first violation_count lines are in use. An array with a count, since a replay allocates nothing.
 #[derive(Clone, Copy)]
 pub struct TStdReport {
     pub violations: [ViolationLine; 64],

@@ -48,6 +48,7 @@ fn underflow_in(branch: TStdBranch, pid: u16, decode_time: f64, missing_bytes: u
     }
 }
 
+// A kind is a slot's place in its chain, as `events` counts them, and so a number.
 #[tactic(auto, unfolding(crate::specs::Violation::stream_violation, crate::specs::Violation::event_of))]
 fn stream_violation(stream: TStdStream, kind: usize, figure: f64, decode_time: f64) -> TStdViolation
     ensures { result ≡ stream_violation stream (event_of kind figure decode_time) }
