@@ -25,8 +25,7 @@ use Rattle.ieee.proofs.Value.{le→val}
 use Rattle.ieee.proofs.Whole.{is_finite, is_in, le_is, lt_is, of_int_is, plain_is, sub_is}
 use Rattle.branch.specs.CumulativeIn.{Inflow, front_time, time_from, time_of_cumulative}
 use Rattle.branch.specs.declared.Run.{Run}
-use Rattle.branch.specs.declared.inflow.ArrivalTime.{ArrivalTime}
-use Rattle.branch.specs.declared.inflow.ArrivalTime.TheVariants.{At, NotQueued}
+use Rattle.std.specs.Prelude.{Option, Some, None}
 use Rattle.bounds.specs.Runs.{InflowIn, RunIs, RunsWithin, a_run, longest_window}
 use Rattle.bounds.proofs.Arrived.{whole_add, within}
 
@@ -41,9 +40,9 @@ pub record FoundAt (N : ℕ) (target x : Float) : Type 0 where
   pub high : T (le x (plain found_limit))
   pub fit : T (fits binary64 x)
 
-abbrev pub FoundIn : ℕ → Float → ArrivalTime → Type 0
-FoundIn N target (At x) = FoundAt N target x
-FoundIn N target NotQueued = Unit {0}
+abbrev pub FoundIn : ℕ → Float → Option Float → Type 0
+FoundIn N target (Some x) = FoundAt N target x
+FoundIn N target None = Unit {0}
 
 pub is_under : (target x : Float) (m N : ℕ) → T (finite target) → Is x m → m ≤ N → T (le target x) → T (le target (plain N))
 is_under target x m N p i h k = let j = is_in x m 0 N i (omega arith) h in fl-trans target x (plain N) p (in_finite j) tt k j.high

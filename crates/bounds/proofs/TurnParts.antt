@@ -20,8 +20,7 @@ use Rattle.ieee.proofs.Value.{lt→val}
 use Rattle.ieee.proofs.MaxMin.{max_keeps}
 use Rattle.branch.specs.CumulativeIn.{settle, time_of_cumulative}
 use Rattle.branch.specs.VideoBranch.{Leak, Transfer, Turned, VideoRates, arriving, backlog_take, backlogged, break, eb_room, filled, gone, looked, mb_fullness, moved, on, pace_take, paced, transfer}
-use Rattle.branch.specs.declared.inflow.ArrivalTime.{ArrivalTime}
-use Rattle.branch.specs.declared.inflow.ArrivalTime.TheVariants.{At, NotQueued}
+use Rattle.std.specs.Prelude.{Option, Some, None}
 use Rattle.bounds.specs.Runs.{InflowIn, TimeIn}
 use Rattle.bounds.specs.Video.{EbCount, RatesIn}
 use Rattle.bounds.proofs.Arrived.{arrived_fits, arrived_in, arrived_of, settle_keeps}
@@ -313,11 +312,11 @@ module _ (N : ℕ) (s : Leak) (t a room : Float) (h : N ≤ 2 ^ 53) (q : InflowI
   module _ (P : Turned → Type 0) (number : lt ((pace_take s t a room) ⊕ 1f) (arriving s t a) ≡ true → T (finite (transfer s.flow (max_of (pace_take s t a room) 0f)).transferred))
       (goes : lt ((pace_take s t a room) ⊕ 1f) (arriving s t a) ≡ true → (x : Float) → FoundAt N (transfer s.flow (max_of (pace_take s t a room) 0f)).transferred x → P (on (gone s t (max_of (pace_take s t a room) 0f) (max_of x s.proc_time))))
       (ends : P (break (gone s t (max_of (pace_take s t a room) 0f) t))) where
-    by_time : lt ((pace_take s t a room) ⊕ 1f) (arriving s t a) ≡ true → (f : ArrivalTime) → FoundIn N (transfer s.flow (max_of (pace_take s t a room) 0f)).transferred f
+    by_time : lt ((pace_take s t a room) ⊕ 1f) (arriving s t a) ≡ true → (f : Option Float) → FoundIn N (transfer s.flow (max_of (pace_take s t a room) 0f)).transferred f
         → P (filled s t (max_of (pace_take s t a room) 0f) f)
     unfolding filled
-    by_time e (At x) k = goes e x k
-    by_time e NotQueued k = ends
+    by_time e (Some x) k = goes e x k
+    by_time e None k = ends
 
     by_test : (b : Bool) → lt ((pace_take s t a room) ⊕ 1f) (arriving s t a) ≡ b
         → P (cond b (filled s t (max_of (pace_take s t a room) 0f) (time_of_cumulative (settle s.mb_in t) (transfer s.flow (max_of (pace_take s t a room) 0f)).transferred)) (break (gone s t (max_of (pace_take s t a room) 0f) t)))

@@ -15,19 +15,19 @@ use Rattle.events.proofs.Noted.{noted_all_when_lem}
 use Rattle.branch.specs.declared.Run.{Run}
 use Rattle.branch.specs.declared.AccessUnit.{AccessUnit}
 use Rattle.branch.specs.declared.Delivered.{Delivered}
-use Rattle.branch.specs.declared.inflow.PushedRun.{PushedRun}
 use Rattle.branch.specs.declared.queue.Place.{Place}
-use Rattle.branch.specs.declared.queue.Three.{Three}
-use Rattle.branch.specs.declared.queue.Pushed.{Pushed}
+use Rattle.branch.specs.declared.queue.Ring.{Ring}
+use Rattle.branch.specs.declared.inflow.CumulativeIn.{CumulativeIn}
+use Rattle.std.specs.Prelude.{Option, Some, None}
 use Rattle.branch.specs.declared.main_branch.MainModel.{MainModel}
 use Rattle.branch.specs.declared.main_branch.MainBranch.{MainBranch}
 use Rattle.branch.specs.declared.main_branch.Stepped.{Stepped}
-use Rattle.branch.specs.Queue.{three_at, PushedTo}
-use Rattle.branch.specs.CumulativeIn.{final_total, push_run, run_refused}
+use Rattle.branch.specs.Queue.{floats_at, PushedTo}
+use Rattle.branch.specs.CumulativeIn.{final_total, run_refused}
 use Rattle.branch.specs.InflowInWork.{run_of, inflow_of, RunPushedTo}
 use Rattle.branch.specs.MainBranch.{none, unit, Main, Fed, refused, fed, and_then, with_units, close_by, close_au, open_unit, grown, add_bytes, add_run, open_of, stamp_of, final_fullness, at_peak, look_at_end}
-use Rattle.branch.specs.MainInWork.{no_unit, runs_place, units_place, unit_of, units_of, main_of, BranchLies, DrainedTo, FedTo}
-use Rattle.branch.proofs.Rings.{kept, count_entries, three_local, lies_kept, outside_refl, outside_then, outside_wider, push_full, push_refused, push_adds, push_lies, push_outside}
+use Rattle.branch.specs.MainInWork.{no_unit, floats_of_unit, runs_place, units_place, unit_of, units_of, main_of, BranchLies, DrainedTo, FedTo}
+use Rattle.branch.proofs.Rings.{kept, count_entries, floats_local, lies_kept, outside_refl, outside_then, outside_wider, push_room, push_refused, push_adds, push_lies, push_outside}
 
 -- ---- the look at the end
 
@@ -67,10 +67,6 @@ pub open_none : open_of no_unit ≡ none
 unfolding open_of ne eq
 open_none = refl
 
--- the open unit as an entry
-abbrev entry_of : AccessUnit → Three
-entry_of u = record { a = u.decode_time; b = u.bytes; c = u.first_input_time }
-
 module _ (w : List Float) (p : MainModel) (b : MainBranch) where
   pub close_none : ne b.open_au.decode_time -∞ ≡ false → close_au p.depth (main_of w p b) ≡ fed (main_of w p b)
   unfolding close_au close_by main_of open_of
@@ -79,25 +75,25 @@ module _ (w : List Float) (p : MainModel) (b : MainBranch) where
   close_unit : ne b.open_au.decode_time -∞ ≡ true →
       close_au p.depth (main_of w p b) ≡ cond (eqb b.pending.count p.depth) (refused (main_of w p b)) (fed (with_units (main_of w p b) (units_of w p b.pending ++ (b.open_au ∷ [])) none))
   unfolding close_au close_by main_of open_of
-  close_unit e = simp (e, count_entries 3 (λ u i. unit_of (three_at u i)) w (units_place p) b.pending)
+  close_unit e = simp (e, count_entries 3 (λ u i. unit_of (floats_at 3 u i)) w (units_place p) b.pending)
 
-module _ (w v : List Float) (p : MainModel) (b : MainBranch) (pl : Place) (at : pl ≡ units_place p) (l : BranchLies w p b) (r : Pushed) (isOpen : ne b.open_au.decode_time -∞ ≡ true) (m : PushedTo 3 three_at w pl b.pending (entry_of b.open_au) r v) where
-  here : PushedTo 3 three_at w (units_place p) b.pending (entry_of b.open_au) r v
+module _ (w v : List Float) (p : MainModel) (b : MainBranch) (pl : Place) (at : pl ≡ units_place p) (l : BranchLies w p b) (isOpen : ne b.open_au.decode_time -∞ ≡ true) (r : Option Ring)
+    (m : PushedTo 3 w pl b.pending (floats_of_unit b.open_au) r v) where
+  here : PushedTo 3 w (units_place p) b.pending (floats_of_unit b.open_au) r v
   here = rw at at m
 
-  pub close_full : r.full ≡ true → FedTo w p b (close_au p.depth (main_of w p b)) (record { full = true; branch = b }) v
+  pub close_full : r ≡ None → FedTo w p b (close_au p.depth (main_of w p b)) (record { full = true; branch = b }) v
   close_full f =
       let k = push_refused l.pending here f in
-      let c : eqb b.pending.count p.depth ≡ true = sym (push_full l.pending here) ∙ f in
-      rw k.0 (fed_refused w p b _ l (close_unit w p b isOpen ∙ rw c))
+      rw k.0 (fed_refused w p b _ l (close_unit w p b isOpen ∙ rw k.1))
 
-  pub close_pushed : r.full ≡ false →
+  pub close_pushed : (q : Ring) → r ≡ Some q →
       FedTo w p b (close_au p.depth (main_of w p b))
       (record {
         full = false;
         branch = record {
           inflow = b.inflow;
-          pending = r.ring;
+          pending = q;
           open_au = no_unit;
           removed = b.removed;
           required = b.required;
@@ -108,15 +104,15 @@ module _ (w v : List Float) (p : MainModel) (b : MainBranch) (pl : Place) (at : 
       })
       v
   unfolding main_of with_units
-  close_pushed f =
-      let c : eqb b.pending.count p.depth ≡ false = sym (push_full l.pending here) ∙ f in
+  close_pushed q f =
       let o = push_outside l.pending here in
-      let e : close_au p.depth (main_of w p b) ≡ fed (with_units (main_of w p b) (units_of w p b.pending ++ (b.open_au ∷ [])) none) = close_unit w p b isOpen ∙ rw c in
-      let runs = kept 3 (λ u i. run_of (three_at u i)) (three_local run_of) (runs_place p) b.inflow.runs l.runs o (inl (omega arith)) in
-      let units = push_adds l.pending here unit_of (three_local unit_of) f in
+      let e : close_au p.depth (main_of w p b) ≡ fed (with_units (main_of w p b) (units_of w p b.pending ++ (b.open_au ∷ [])) none) =
+      close_unit w p b isOpen ∙ rw (push_room l.pending here q f) in
+      let runs = kept 3 (λ u i. run_of (floats_at 3 u i)) (floats_local 3 run_of) (runs_place p) b.inflow.runs l.runs o (inl (omega arith)) in
+      let units = push_adds l.pending here q f unit_of (floats_local 3 unit_of) in
       rw e
       (record {
-        lies = record { runs = lies_kept o l.runs; pending = push_lies l.pending here };
+        lies = record { runs = lies_kept o l.runs; pending = push_lies l.pending here q f };
         outside = outside_wider (omega arith) (omega arith) o;
         full = refl;
         state = rw (runs, units, open_none);
@@ -200,7 +196,8 @@ some_run_lem : (depth : ℕ) (run : Run) (m : Main) → lt 0f run.bytes ≡ true
 unfolding add_run
 some_run_lem depth run m e = simp e
 
-module _ (w v : List Float) (p : MainModel) (b : MainBranch) (run : Run) (some : lt 0f run.bytes ≡ true) (pl : Place) (at : pl ≡ runs_place p) (l : BranchLies w p b) (r : PushedRun) (m : RunPushedTo w pl b.inflow run r v) where
+module _ (w v : List Float) (p : MainModel) (b : MainBranch) (run : Run) (some : lt 0f run.bytes ≡ true) (pl : Place) (at : pl ≡ runs_place p) (l : BranchLies w p b) (r : Option CumulativeIn)
+    (m : RunPushedTo w pl b.inflow run r v) where
   run_here : RunPushedTo w (runs_place p) b.inflow run r v
   run_here = rw at at m
 
@@ -208,18 +205,19 @@ module _ (w v : List Float) (p : MainModel) (b : MainBranch) (run : Run) (some :
   unfolding main_of
   inflow_of_lem = refl
 
-  pub add_full : r.full ≡ true → FedTo w p b (add_run p.depth run (main_of w p b)) (record { full = true; branch = b }) v
+  pub add_full : r ≡ None → FedTo w p b (add_run p.depth run (main_of w p b)) (record { full = true; branch = b }) v
   unfolding add_bytes
   add_full f =
-      let c : run_refused p.depth (main_of w p b).inflow run ≡ true = rw inflow_of_lem (sym run_here.full ∙ f) in
-      rw (run_here.refused f) (fed_refused w p b _ l (some_run_lem p.depth run (main_of w p b) some ∙ rw c))
+      let k = run_here.refused f in
+      let c : run_refused p.depth (main_of w p b).inflow run ≡ true = rw inflow_of_lem k.1 in
+      rw k.0 (fed_refused w p b _ l (some_run_lem p.depth run (main_of w p b) some ∙ rw c))
 
-  pub add_pushed : r.full ≡ false →
+  pub add_pushed : (i : CumulativeIn) → r ≡ Some i →
       FedTo w p b (add_run p.depth run (main_of w p b))
       (record {
         full = false;
         branch = record {
-          inflow = r.inflow;
+          inflow = i;
           pending = b.pending;
           open_au = record { decode_time = b.open_au.decode_time; bytes = b.open_au.bytes ⊕ run.bytes; first_input_time = b.open_au.first_input_time };
           removed = b.removed;
@@ -231,16 +229,15 @@ module _ (w v : List Float) (p : MainModel) (b : MainBranch) (run : Run) (some :
       })
       v
   unfolding add_bytes main_of
-  add_pushed f =
+  add_pushed i f =
       let h = run_here in
-      let c : run_refused p.depth (inflow_of w (runs_place p) b.inflow) run ≡ false = sym h.full ∙ f in
-      let i : inflow_of v (runs_place p) r.inflow ≡ push_run (inflow_of w (runs_place p) b.inflow) run = h.state ∙ rw f in
-      let units = kept 3 (λ u o. unit_of (three_at u o)) (three_local unit_of) (units_place p) b.pending l.pending h.outside (inr (omega arith)) in
-      rw (some_run_lem p.depth run (main_of w p b) some, c)
+      let k = h.taken i f in
+      let units = kept 3 (λ u o. unit_of (floats_at 3 u o)) (floats_local 3 unit_of) (units_place p) b.pending l.pending h.outside (inr (omega arith)) in
+      rw (some_run_lem p.depth run (main_of w p b) some, k.room)
       (record {
-        lies = record { runs = h.lies; pending = lies_kept h.outside l.pending };
+        lies = record { runs = k.lies; pending = lies_kept h.outside l.pending };
         outside = outside_wider (omega arith) (omega arith) h.outside;
         full = refl;
-        state = rw (i, units, grown_by b.open_au run.bytes (ne b.open_au.decode_time -∞) refl);
+        state = rw (k.state, units, grown_by b.open_au run.bytes (ne b.open_au.decode_time -∞) refl);
         units = refl;
       })

@@ -1,56 +1,24 @@
 -- Header marks in a ring of the work, and the turns of `header_bytes` in terms of the list of them.
-use Prim.Native.Nat.{ℕ, ◌+◌, ◌≤◌, ◌<◌}
+use Prim.Native.Nat.{◌≤◌, ◌<◌}
 use mathlib.Core.Path.{◌≡◌, refl, sym, ◌∙◌}
 use mathlib.Core.Bool.{true, false}
 use mathlib.Core.List.{List, [], ◌∷◌}
-use mathlib.Core.Logic.{◌≢◌, ⊎_elim}
 use native.Mathlib.Omega.{arith}
-use native.Mathlib.Nat.{add-zero}
-use lib.ListN.{length, get_or, set, length-set}
-use lib.Seq.{get_or-set_same, get_or-set_other}
-use lib.Ieee.{Float, nan, le}
+use lib.Ieee.{Float, le}
 use Rattle.ieee.specs.Binary64.{◌⊕◌, ◌⊖◌, 0f}
 use Rattle.branch.specs.declared.HeaderMark.{HeaderMark}
 use Rattle.branch.specs.declared.queue.Place.{Place}
 use Rattle.branch.specs.declared.queue.Ring.{Ring}
-use Rattle.branch.specs.Queue.{Lies, SameOutside, place_of, entries, pop_def}
+use Rattle.branch.specs.Queue.{Lies, place_of, entries, pop_def}
 use Rattle.branch.specs.VideoBranch.{overlap, header_bytes, marks_left}
-use Rattle.branch.specs.VideoInWork.{mark_at, HeadersBy}
-use Rattle.branch.proofs.Rings.{Local, popped, lies_popped, no_entries_lem}
+use Rattle.branch.specs.VideoInWork.{mark_of, mark_at, HeadersBy}
+use Rattle.branch.proofs.Rings.{Local, floats_local, popped, lies_popped, no_entries_lem}
 
 -- ---- a mark in the work
 
-abbrev store_mark : List Float → ℕ → HeaderMark → List Float
-store_mark w p m = set (set w p m.threshold) (p + 1) m.bytes
-
-module _ (w : List Float) (p : ℕ) (m : HeaderMark) where
-  pub mark_outside : SameOutside p (p + 2) w (store_mark w p m)
-  mark_outside =
-      record {
-        size = simp length-set;
-        same = λ i h.
-            let w1 = set w p m.threshold in
-            let a : i ≢ p = λ x. ⊎_elim (λ k. omega arith) (λ k. omega arith) h in
-            let b : i ≢ p + 1 = λ x. ⊎_elim (λ k. omega arith) (λ k. omega arith) h in
-            get_or-set_other w1 (p + 1) i m.bytes nan b ∙ get_or-set_other w p i m.threshold nan a;
-      }
-
-  pub mark_stored : p + 2 ≤ length w → mark_at (store_mark w p m) p ≡ m
-  unfolding mark_at
-  mark_stored h =
-      let w1 = set w p m.threshold in
-      let l1 : length w1 ≡ length w = length-set w p m.threshold in
-      rw (
-        get_or-set_other w1 (p + 1) p m.bytes nan (λ x. omega arith),
-        get_or-set_same w p m.threshold nan (omega arith),
-        get_or-set_same w1 (p + 1) m.bytes nan (omega arith),
-      )
-
 pub mark_local : Local 2 mark_at
 unfolding mark_at
-mark_local w v o h =
-    let a : get_or v o nan ≡ get_or w o nan = simp add-zero at (h 0 (omega arith)) in
-    rw (a, h 1 (omega arith))
+mark_local = floats_local 2 mark_of
 
 -- ---- the turns of `header_bytes`
 

@@ -1,29 +1,28 @@
 -- The turns of the loops of `CumulativeIn`, in terms of the runs in the ring.
 use Prim.Native.Nat.{ℕ, ◌+◌, ◌≤◌, ◌<◌}
 use mathlib.Core.Path.{◌≡◌, refl, sym, ap, ◌∙◌}
-use mathlib.Core.Bool.{Bool, true, false, cond}
-use mathlib.Core.List.{List, ◌∷◌}
+use mathlib.Core.Bool.{true, false}
+use mathlib.Core.List.{List, [], ◌∷◌}
 use native.Mathlib.Omega.{arith}
 use lib.Ieee.{Float, lt, le}
 use Rattle.ieee.specs.Binary64.{◌⊕◌, ◌⊖◌, ◌⊗◌, ◌⊘◌, 0f, -∞}
 use Rattle.branch.specs.declared.Run.{Run}
 use Rattle.branch.specs.declared.queue.Place.{Place}
 use Rattle.branch.specs.declared.queue.Ring.{Ring}
-use Rattle.branch.specs.declared.queue.Pushed.{Pushed}
 use Rattle.branch.specs.declared.inflow.CumulativeIn.{CumulativeIn}
-use Rattle.branch.specs.declared.inflow.ArrivalTime.{ArrivalTime}
-use Rattle.branch.specs.declared.inflow.ArrivalTime.TheVariants.{At, NotQueued}
-use Rattle.branch.specs.Queue.{Lies, place_of, three_at, pop_def, PushedTo}
+use Rattle.std.specs.Prelude.{Option, Some, None}
+use Rattle.std.proofs.lemmas.Option.{none-some}
+use Rattle.branch.specs.Queue.{Lies, place_of, floats_at, pop_def, PushedTo}
 use Rattle.branch.specs.CumulativeIn.{Inflow, settle, arrived_by, fraction, total_of, bytes_from, time_from, front_time, time_of_cumulative, push_run, run_refused}
-use Rattle.branch.specs.InflowInWork.{run_of, runs_of, inflow_of, SettledTo, RunPushedTo}
-use Rattle.branch.proofs.Rings.{popped, lies_popped, no_entries_lem, count_entries, three_local, Walking, walk_next, walk_stop, walk_end, push_full, push_refused, push_adds, push_lies, push_outside, outside_refl}
+use Rattle.branch.specs.InflowInWork.{run_of, runs_of, inflow_of, SettledTo, RunTaken, RunPushedTo}
+use Rattle.branch.proofs.Rings.{popped, lies_popped, no_entries_lem, count_entries, floats_local, Walking, walk_next, walk_stop, walk_end, push_room, push_refused, push_adds, push_lies, push_outside, outside_refl, some_is}
 use Rattle.branch.proofs.Settling.{inflow, settle_spent, settle_left, settle_none}
 
 abbrev pub run_in : List Float → Place → Ring → ℕ → Run
-run_in w p q i = run_of (three_at w (place_of 3 p q i))
+run_in w p q i = run_of (floats_at 3 w (place_of 3 p q i))
 
 abbrev read_run : List Float → ℕ → Run
-read_run u o = run_of (three_at u o)
+read_run u o = run_of (floats_at 3 u o)
 
 -- ---- settle
 
@@ -86,19 +85,19 @@ module _ {w : List Float} {p : Place} {q : Ring} {i : ℕ} {s z : Float} (inv : 
   unfolding bytes_from
   final_ends h = walk_end inv _ h refl
 
-abbrev pub Times : List Float → Place → Ring → Float → ℕ → Float → ArrivalTime → Type 0
+abbrev pub Times : List Float → Place → Ring → Float → ℕ → Float → Option Float → Type 0
 Times w p q target i s z = Walking 3 read_run (λ l a. time_from l a target) w p q i s z
 
-module _ (target : Float) {w : List Float} {p : Place} {q : Ring} {i : ℕ} {s : Float} {z : ArrivalTime} (inv : Times w p q target i s z) (h : i < q.count) where
+module _ (target : Float) {w : List Float} {p : Place} {q : Ring} {i : ℕ} {s : Float} {z : Option Float} (inv : Times w p q target i s z) (h : i < q.count) where
   pub time_more : le target (s ⊕ (run_in w p q i).bytes) ≡ false → Times w p q target (i + 1) (s ⊕ (run_in w p q i).bytes) z
   unfolding time_from
   time_more e = walk_next inv _ h (λ l. simp e)
 
-  pub time_stops : le target (s ⊕ (run_in w p q i).bytes) ≡ true → At ((run_in w p q i).t0 ⊕ ((run_in w p q i).t1 ⊖ (run_in w p q i).t0) ⊗ ((target ⊖ s) ⊘ (run_in w p q i).bytes)) ≡ z
+  pub time_stops : le target (s ⊕ (run_in w p q i).bytes) ≡ true → Some ((run_in w p q i).t0 ⊕ ((run_in w p q i).t1 ⊖ (run_in w p q i).t0) ⊗ ((target ⊖ s) ⊘ (run_in w p q i).bytes)) ≡ z
   unfolding time_from
   time_stops e = walk_stop inv _ h (λ l. simp e)
 
-pub time_ends : (target : Float) {w : List Float} {p : Place} {q : Ring} {i : ℕ} {s : Float} {z : ArrivalTime} → Times w p q target i s z → q.count ≤ i → NotQueued ≡ z
+pub time_ends : (target : Float) {w : List Float} {p : Place} {q : Ring} {i : ℕ} {s : Float} {z : Option Float} → Times w p q target i s z → q.count ≤ i → None ≡ z
 unfolding time_from
 time_ends target inv h = walk_end inv _ h refl
 
@@ -108,17 +107,17 @@ total_settled {t = t} m = ap (λ (i : Inflow). total_of i.runs i.settled t) m.st
 
 -- what is settled has the time of the first run left
 module _ (w : List Float) (p : Place) (c : CumulativeIn) (target : Float) where
-  settled_time : le target c.settled ≡ true → At (front_time (runs_of w p c.runs)) ≡ time_of_cumulative (inflow_of w p c) target
+  settled_time : le target c.settled ≡ true → Some (front_time (runs_of w p c.runs)) ≡ time_of_cumulative (inflow_of w p c) target
   unfolding time_of_cumulative
   settled_time e = simp e
 
-  pub time_forgotten : le target c.settled ≡ true → c.runs.count ≡ 0 → At -∞ ≡ time_of_cumulative (inflow_of w p c) target
+  pub time_forgotten : le target c.settled ≡ true → c.runs.count ≡ 0 → Some -∞ ≡ time_of_cumulative (inflow_of w p c) target
   unfolding front_time
-  time_forgotten e z = ap (λ (l : List Run). At (front_time l)) (sym (no_entries_lem 3 read_run w p c.runs z)) ∙ settled_time e
+  time_forgotten e z = ap (λ (l : List Run). Some (front_time l)) (sym (no_entries_lem 3 read_run w p c.runs z)) ∙ settled_time e
 
-  pub time_first : le target c.settled ≡ true → Lies 3 w p c.runs → 0 < c.runs.count → At (run_in w p c.runs 0).t0 ≡ time_of_cumulative (inflow_of w p c) target
+  pub time_first : le target c.settled ≡ true → Lies 3 w p c.runs → 0 < c.runs.count → Some (run_in w p c.runs 0).t0 ≡ time_of_cumulative (inflow_of w p c) target
   unfolding front_time
-  time_first e l h = ap (λ (l : List Run). At (front_time l)) (sym (popped 3 read_run w p c.runs l h)) ∙ settled_time e
+  time_first e l h = ap (λ (l : List Run). Some (front_time l)) (sym (popped 3 read_run w p c.runs l h)) ∙ settled_time e
 
   -- what is not: the sum over the runs
   pub time_unsettled : le target c.settled ≡ false → time_from (runs_of w p c.runs) c.settled target ≡ time_of_cumulative (inflow_of w p c) target
@@ -127,25 +126,37 @@ module _ (w : List Float) (p : Place) (c : CumulativeIn) (target : Float) where
 
 -- ---- push_run
 
-pub run_empty : (w : List Float) (p : Place) (c : CumulativeIn) (run : Run) → Lies 3 w p c.runs → lt 0f run.bytes ≡ false → RunPushedTo w p c run (record { full = false; inflow = c }) w
+pub run_empty : (w : List Float) (p : Place) (c : CumulativeIn) (run : Run) → Lies 3 w p c.runs → lt 0f run.bytes ≡ false → RunPushedTo w p c run (Some c) w
 unfolding run_refused push_run
-run_empty w p c run l e = record { lies = l; outside = outside_refl _ _ w; refused = λ f. refl; full = simp e; state = simp e }
+run_empty w p c run l e =
+    record {
+      outside = outside_refl _ _ w;
+      refused = λ f. absurd (none-some c (sym f));
+      taken = λ o f. let z : c ≡ o = some_is f in rw (← z) (record { lies = l; room = simp e; state = simp e });
+    }
 
-module _ (w v : List Float) (p : Place) (c : CumulativeIn) (run : Run) (lies : Lies 3 w p c.runs) where
-  pushed_by : (r : Pushed) (b : Bool) → r.full ≡ b → lt 0f run.bytes ≡ true → PushedTo 3 three_at w p c.runs (record { a = run.t0; b = run.t1; c = run.bytes }) r v →
-      inflow_of v p (record { runs = r.ring; settled = c.settled }) ≡ cond r.full (inflow_of w p c) (push_run (inflow_of w p c) run)
-  unfolding push_run
-  pushed_by r true f e m = let k = push_refused lies m f in simp (f, k.0, k.1)
-  pushed_by r false f e m = let k = push_adds lies m run_of (three_local run_of) f in simp (f, e, k)
+abbrev pub floats_of_run : Run → List Float
+floats_of_run r = r.t0 ∷ (r.t1 ∷ (r.bytes ∷ []))
 
-  pub run_pushed : (r : Pushed) → lt 0f run.bytes ≡ true → PushedTo 3 three_at w p c.runs (record { a = run.t0; b = run.t1; c = run.bytes }) r v →
-      RunPushedTo w p c run (record { full = r.full; inflow = record { runs = r.ring; settled = c.settled } }) v
+module _ (w v : List Float) (p : Place) (c : CumulativeIn) (run : Run) (lies : Lies 3 w p c.runs) (r : Option Ring) (e : lt 0f run.bytes ≡ true) (m : PushedTo 3 w p c.runs (floats_of_run run) r v) where
+  pub run_refused_lem : r ≡ None → RunPushedTo w p c run None v
   unfolding run_refused
-  run_pushed r e m =
+  run_refused_lem f =
+      let k = push_refused lies m f in
       record {
-        lies = push_lies lies m;
         outside = push_outside lies m;
-        refused = λ f. (push_refused lies m f).0;
-        full = simp (e, count_entries 3 read_run w p c.runs) (push_full lies m);
-        state = pushed_by r r.full refl e m;
+        refused = λ z. (k.0, simp (e, count_entries 3 read_run w p c.runs) k.1);
+        taken = λ o z. absurd (none-some o z);
       }
+
+  pub run_taken : (q : Ring) → r ≡ Some q → RunPushedTo w p c run (Some (record { runs = q; settled = c.settled })) v
+  unfolding run_refused push_run
+  run_taken q f =
+      let i : CumulativeIn = record { runs = q; settled = c.settled } in
+      let t : RunTaken w p c run i v =
+      record {
+        lies = push_lies lies m q f;
+        room = simp (e, count_entries 3 read_run w p c.runs) (push_room lies m q f);
+        state = simp (e, push_adds lies m q f run_of (floats_local 3 run_of));
+      } in
+      record { outside = push_outside lies m; refused = λ z. absurd (none-some i (sym z)); taken = λ o z. let y : i ≡ o = some_is z in rw (← y) t }

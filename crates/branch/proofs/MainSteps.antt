@@ -15,7 +15,7 @@ use Rattle.branch.specs.declared.Delivered.{Delivered}
 use Rattle.branch.specs.declared.main_branch.MainModel.{MainModel}
 use Rattle.branch.specs.declared.main_branch.MainBranch.{MainBranch}
 use Rattle.branch.specs.declared.main_branch.Stepped.{Stepped}
-use Rattle.branch.specs.Queue.{three_at}
+use Rattle.branch.specs.Queue.{floats_at}
 use Rattle.branch.specs.InflowInWork.{run_of}
 use Rattle.branch.specs.MainBranch.{Main, OpenAu, none, unit, Drained, drain, look_at_end, finish, Fed, fed, with_units, close_by, close_au, deliver, Step, packet_step, end_step, main_step, new_main}
 use Rattle.branch.specs.MainInWork.{new_branch, no_entries, runs_place, units_place, unit_of, main_of, BranchLies, ready, DrainedTo, FedTo, SteppedTo, StepOf}
@@ -172,7 +172,7 @@ module _ (size : Float) (depth : ℕ) (d : Delivered) (t : Float) (b : Main) whe
 
 pub new_is : (w : List Float) (p : MainModel) → main_of w p new_branch ≡ new_main
 unfolding main_of new_branch new_main
-new_is w p = rw (no_entries_lem 3 (λ u o. run_of (three_at u o)) w (runs_place p) no_entries refl, no_entries_lem 3 (λ u o. unit_of (three_at u o)) w (units_place p) no_entries refl, open_none)
+new_is w p = rw (no_entries_lem 3 (λ u o. run_of (floats_at 3 u o)) w (runs_place p) no_entries refl, no_entries_lem 3 (λ u o. unit_of (floats_at 3 u o)) w (units_place p) no_entries refl, open_none)
 
 pub new_lies : (w : List Float) (p : MainModel) → 0 < p.depth → p.base + 6 * p.depth ≤ length w → BranchLies w p new_branch
 unfolding new_branch

@@ -16,7 +16,7 @@ use Rattle.branch.specs.declared.queue.Place.{Place}
 use Rattle.branch.specs.declared.queue.Ring.{Ring}
 use Rattle.branch.specs.declared.main_branch.MainModel.{MainModel}
 use Rattle.branch.specs.declared.main_branch.MainBranch.{MainBranch}
-use Rattle.branch.specs.Queue.{place_of, three_at, pop_def}
+use Rattle.branch.specs.Queue.{place_of, floats_at, pop_def}
 use Rattle.branch.specs.InflowInWork.{ArrivedTo}
 use Rattle.branch.specs.MainBranch.{Main, Drained, removal_events, remove_events, remove_unit, after, drain_from, drain}
 use Rattle.branch.specs.MainInWork.{runs_place, units_place, unit_of, units_of, main_of, BranchLies, RemovedTo, DrainedTo}
@@ -84,7 +84,7 @@ module _ (size f : Float) (m : Main) where
 -- ---- drain in the work
 
 abbrev pub unit_in : List Float → MainModel → Ring → AccessUnit
-unit_in w p q = unit_of (three_at w (place_of 3 (units_place p) q 0))
+unit_in w p q = unit_of (floats_at 3 w (place_of 3 (units_place p) q 0))
 
 -- the branch without its first pending unit
 abbrev pub unit_popped : MainBranch → Ring → MainBranch
@@ -125,7 +125,7 @@ events_same size w p b q u = refl
 
 module _ (w : List Float) (p : MainModel) (k : ℕ) (f : Float) (o : MainBranch) (s : Slots) (b : MainBranch) (x : Slots) (inv : Draining w p k f o s b x) where
   first : 0 < b.pending.count → (main_of w p b).pending ≡ unit_in w p b.pending ∷ units_of w p (pop_def p.depth b.pending)
-  first h = pending_of w p b ∙ popped 3 (λ u i. unit_of (three_at u i)) w (units_place p) b.pending inv.lies.pending h
+  first h = pending_of w p b ∙ popped 3 (λ u i. unit_of (floats_at 3 u i)) w (units_place p) b.pending inv.lies.pending h
 
   drain_more : (r : MainBranch) (y : Slots) → 0 < b.pending.count → lt f (unit_in w p b.pending).decode_time ≡ false →
       RemovedTo w p (unit_popped b (pop_def p.depth b.pending)) (unit_in w p b.pending) k x r y → Draining w p k f o s r y
@@ -152,7 +152,7 @@ module _ (w : List Float) (p : MainModel) (k : ℕ) (f : Float) (o : MainBranch)
       }
 
   -- a turn, by what its calls gave
-  module _ (pl : Place) (u : AccessUnit) (at : pl ≡ units_place p) (seen : u ≡ unit_of (three_at w (place_of 3 pl b.pending 0))) where
+  module _ (pl : Place) (u : AccessUnit) (at : pl ≡ units_place p) (seen : u ≡ unit_of (floats_at 3 w (place_of 3 pl b.pending 0))) where
     unit_is : u ≡ unit_in w p b.pending
     unit_is = rw at at seen
 
@@ -172,13 +172,13 @@ module _ (w : List Float) (p : MainModel) (k : ℕ) (f : Float) (o : MainBranch)
   drain_stopped : 0 < b.pending.count → lt f (unit_in w p b.pending).decode_time ≡ true → DrainedTo w p k s (drain p.buffer_size f (main_of w p o)) b x
   drain_stopped h e = ended (drain_stop p.buffer_size f (main_of w p b) (unit_in w p b.pending) (units_of w p (pop_def p.depth b.pending)) (first h) e)
 
-  pub drain_stops : (pl : Place) (u : AccessUnit) → pl ≡ units_place p → u ≡ unit_of (three_at w (place_of 3 pl b.pending 0)) → 0 < b.pending.count → lt f u.decode_time ≡ true → DrainedTo w p k s (drain p.buffer_size f (main_of w p o)) b x
+  pub drain_stops : (pl : Place) (u : AccessUnit) → pl ≡ units_place p → u ≡ unit_of (floats_at 3 w (place_of 3 pl b.pending 0)) → 0 < b.pending.count → lt f u.decode_time ≡ true → DrainedTo w p k s (drain p.buffer_size f (main_of w p o)) b x
   drain_stops pl u at seen h e = drain_stopped h (rw (unit_is pl u at seen) at e)
 
   pub drain_ends : b.pending.count ≤ 0 → DrainedTo w p k s (drain p.buffer_size f (main_of w p o)) b x
   drain_ends h =
       let z : b.pending.count ≡ 0 = omega arith in
-      ended (drain_none p.buffer_size f (main_of w p b) (pending_of w p b ∙ no_entries_lem 3 (λ u i. unit_of (three_at u i)) w (units_place p) b.pending z))
+      ended (drain_none p.buffer_size f (main_of w p b) (pending_of w p b ∙ no_entries_lem 3 (λ u i. unit_of (floats_at 3 u i)) w (units_place p) b.pending z))
 
 pub drain_less : {w : List Float} {p : MainModel} {a : MainBranch} {u : AccessUnit} {k : ℕ} {s s' : Slots} {r : MainBranch} (d : ℕ) (q : Ring) → RemovedTo w p a u k s r s' → a.pending ≡ pop_def d q → 0 < q.count → r.pending.count < q.count
 drain_less d q m e h = rw (m.pending, e, count_popped d q) (omega arith)

@@ -2,24 +2,23 @@
 -- the first away, and a store elsewhere changes none.
 use Prim.Native.Nat.{ℕ, zero, suc, ◌+◌, ◌-◌, ◌*◌, ◌≤◌, ◌<◌}
 use mathlib.Core.Path.{◌≡◌, refl, sym, ap, ◌∙◌}
-use mathlib.Core.Bool.{Bool, true, false, true≢false}
+use mathlib.Core.Bool.{Bool, true, false}
 use mathlib.Core.List.{List, [], ◌∷◌, ◌++◌}
 use mathlib.Core.Logic.{◌⊎◌, ◌≢◌, inl, inr, ⊎_elim}
 use native.Mathlib.Omega.{arith}
 use native.Mathlib.Numerals.{add-one}
 use native.Mathlib.Nat.{add-zero, zero-add, add-suc, suc-add, one-mul, mul-suc, mul-le-mul_left, mul-le-mul_right}
-use lib.ListN.{length, get_or, drop, drop_of_length-le}
-use lib.Seq.{drop-cons}
+use lib.ListN.{length, get_or, take, drop, drop_of_length-le}
+use lib.Seq.{drop-cons, drop-append_seam, take-append_seam}
 use lib.Dec.{ltb, eqb}
 use lib.Ieee.{Float, nan}
 use borrow.Author.Tests.{ltb-true, ltb-false, eqb-true, eqb-false, eq-eqb, ne_eqb}
 use Rattle.branch.specs.declared.queue.Place.{Place}
 use Rattle.branch.specs.declared.queue.Ring.{Ring}
-use Rattle.branch.specs.declared.queue.Three.{Three}
-use Rattle.branch.specs.declared.queue.Pushed.{Pushed}
-use Rattle.branch.specs.Stores.{store_from}
-use Rattle.branch.specs.Queue.{Lies, SameOutside, slot_of, place_of, entries_from, entries, pop_def, longer, three_at, store_three, pushed_def, PushedTo}
-use Rattle.branch.proofs.Stores.{stores_length, stores_other, stores_at}
+use Rattle.std.specs.Prelude.{Option, Some, None}
+use Rattle.std.proofs.lemmas.List.{get_or-drop, get_or-take, get_or_append_left, get_or-append_right, ext_get_or, length-append, length-drop, length-take, length-take-le}
+use Rattle.std.proofs.lemmas.Option.{none-some}
+use Rattle.branch.specs.Queue.{Lies, SameOutside, slot_of, place_of, entries_from, entries, pop_def, longer, floats_at, pushed_def, PushedTo}
 
 -- ---- products
 
@@ -102,7 +101,7 @@ outside_wider l h a = record { size = a.size; same = λ i k. a.same i (⊎_elim 
 
 -- an entry that is n floats wide is read from these alone
 abbrev pub Local : {A : Type 0} → ℕ → (List Float → ℕ → A) → Type 0
-Local n at = (w v : List Float) (o : ℕ) → ((k : ℕ) → k < n → get_or v (o + k) nan ≡ get_or w (o + k) nan) → at v o ≡ at w o
+Local n at = (w v : List Float) (o : ℕ) → length v ≡ length w → ((k : ℕ) → k < n → get_or v (o + k) nan ≡ get_or w (o + k) nan) → at v o ≡ at w o
 
 module _ {A : Type 0} (n : ℕ) (at : List Float → ℕ → A) where
   -- two rings that have the same entries
@@ -164,7 +163,7 @@ module _ {A : Type 0} (n : ℕ) (at : List Float → ℕ → A) where
 
 module _ {A : Type 0} (n : ℕ) (at : List Float → ℕ → A) (local : Local n at) where
   pub same_at : {lo hi : ℕ} {w v : List Float} (o : ℕ) → SameOutside lo hi w v → (o + n ≤ lo) ⊎ (hi ≤ o) → at v o ≡ at w o
-  same_at {lo} {hi} {w} {v} o a h = local w v o (λ k l. a.same (o + k) (⊎_elim (λ x. inl (omega arith)) (λ x. inr (omega arith)) h))
+  same_at {lo} {hi} {w} {v} o a h = local w v o a.size (λ k l. a.same (o + k) (⊎_elim (λ x. inl (omega arith)) (λ x. inr (omega arith)) h))
 
   -- a change elsewhere leaves the entries
   pub kept : {lo hi : ℕ} {w v : List Float} (p : Place) (q : Ring) → Lies n w p q → SameOutside lo hi w v → (p.base + n * p.depth ≤ lo) ⊎ (hi ≤ p.base) → entries n at v p q ≡ entries n at w p q
@@ -219,74 +218,89 @@ module _ {n : ℕ} where
 
 -- ---- what a push ensures
 
-full_by : (d : ℕ) (q : Ring) (b : Bool) → eqb q.count d ≡ b → ((q.count ≡ d) × (pushed_def d q ≡ record { full = true; ring = q })) ⊎ ((q.count ≢ d) × (pushed_def d q ≡ record { full = false; ring = longer q }))
+full_by : (d : ℕ) (q : Ring) (b : Bool) → eqb q.count d ≡ b → ((q.count ≡ d) × (pushed_def d q ≡ None)) ⊎ ((q.count ≢ d) × (pushed_def d q ≡ Some (longer q)))
 unfolding pushed_def
 full_by d q true e = inl (eqb-true _ _ e, rw e)
 full_by d q false e = inr (eqb-false _ _ e, rw e)
 
-pub full_is : (d : ℕ) (q : Ring) → ((q.count ≡ d) × (pushed_def d q ≡ record { full = true; ring = q })) ⊎ ((q.count ≢ d) × (pushed_def d q ≡ record { full = false; ring = longer q }))
+pub full_is : (d : ℕ) (q : Ring) → ((q.count ≡ d) × (pushed_def d q ≡ None)) ⊎ ((q.count ≢ d) × (pushed_def d q ≡ Some (longer q)))
 full_is d q = full_by d q (eqb q.count d) refl
 
-module _ {A : Type 0} {n : ℕ} {at : List Float → ℕ → A} {w v : List Float} {p : Place} {q : Ring} {e : A} {r : Pushed} (l : Lies n w p q) (m : PushedTo n at w p q e r v) where
-  pub push_full : r.full ≡ eqb q.count p.depth
-  push_full = ⊎_elim (λ x. rw (m.result, x.1, eq-eqb _ _ x.0)) (λ x. rw (m.result, x.1, ne_eqb _ _ x.0)) (full_is p.depth q)
+pub some_is : {A : Type 0} {a b : A} → Some a ≡ Some b → a ≡ b
+some_is e = cc
 
+module _ {n : ℕ} {w v : List Float} {p : Place} {q : Ring} {e : List Float} {r : Option Ring} (l : Lies n w p q) (m : PushedTo n w p q e r v) where
   -- a push that is refused changes nothing
-  pub push_refused : r.full ≡ true → (v ≡ w) × (r.ring ≡ q)
-  push_refused f = ⊎_elim (λ x. (m.refused f, rw (m.result, x.1) refl)) (λ x. absurd (true≢false (sym f ∙ rw (m.result, x.1) refl))) (full_is p.depth q)
+  pub push_refused : r ≡ None → (v ≡ w) × (eqb q.count p.depth ≡ true)
+  push_refused f =
+      (m.refused f, ⊎_elim (λ x. eq-eqb _ _ x.0) (λ x. absurd (none-some (longer q) (sym f ∙ (m.result ∙ x.1)))) (full_is p.depth q))
 
-  added : r.full ≡ false → (q.count < p.depth) × (r.ring ≡ longer q)
-  added f =
-      ⊎_elim (λ x. absurd (true≢false (sym (rw (m.result, x.1) refl) ∙ f)))
-      (λ x. (lt_of x.0 l.some, rw (m.result, x.1) refl)) (full_is p.depth q)
+  module _ (o : Ring) (f : r ≡ Some o) where
+    added : (q.count ≢ p.depth) × (o ≡ longer q)
+    added =
+        ⊎_elim (λ x. absurd (none-some o (sym x.1 ∙ (sym m.result ∙ f)))) (λ x. (x.0, some_is (sym f ∙ (m.result ∙ x.1)))) (full_is p.depth q)
 
-  -- one that is not refused adds its entry at the end, however the entries are read
-  pub push_adds : {B : Type 0} (f : A → B) → Local n (λ u o. f (at u o)) → r.full ≡ false → entries n (λ u o. f (at u o)) v p r.ring ≡ entries n (λ u o. f (at u o)) w p q ++ (f e ∷ [])
-  push_adds f local z =
-      let a = added z in
-      rw a.1 (pushed n (λ u o. f (at u o)) local w v p q l a.0 m.outside ∙ rw (m.entry z) refl)
+    pub push_room : eqb q.count p.depth ≡ false
+    push_room = ne_eqb _ _ added.0
 
-  pub push_lies : Lies n v p r.ring
-  push_lies = ⊎_elim (λ x. rw (m.result, x.1) (lies_kept m.outside l)) (λ x. rw (m.result, x.1) (lies_kept m.outside (lies_longer l (lt_of x.0 l.some)))) (full_is p.depth q)
+    room : q.count < p.depth
+    room = lt_of added.0 l.some
 
-  -- the ring's own part of the work alone is written
+    -- one that is not refused adds its entry at the end, however the entries are read
+    pub push_adds : {B : Type 0} (g : List Float → B) → Local n (λ u i. g (floats_at n u i)) → entries n (λ u i. g (floats_at n u i)) v p o ≡ entries n (λ u i. g (floats_at n u i)) w p q ++ (g e ∷ [])
+    push_adds g local = rw added.1 (pushed n (λ u i. g (floats_at n u i)) local w v p q l room m.outside ∙ rw (m.entry o f) refl)
+
+    pub push_lies : Lies n v p o
+    push_lies = rw added.1 (lies_kept m.outside (lies_longer l room))
+
+    -- the ring's own part of the work alone is written
+    taken_outside : SameOutside p.base (p.base + n * p.depth) w v
+    taken_outside = let i = place_in n p q q.count l.inside room in outside_wider i.0 i.1 m.outside
+
   pub push_outside : SameOutside p.base (p.base + n * p.depth) w v
-  push_outside =
-      ⊎_elim (λ x. rw (m.refused (rw (m.result, x.1) refl)) (outside_refl _ _ w))
-      (λ x. let i = place_in n p q q.count l.inside (lt_of x.0 l.some) in outside_wider i.0 i.1 m.outside) (full_is p.depth q)
+  push_outside = ⊎_elim (λ x. rw (m.refused (m.result ∙ x.1)) (outside_refl _ _ w)) (λ x. taken_outside (longer q) (m.result ∙ x.1)) (full_is p.depth q)
 
--- ---- floats stored one after the other
+-- ---- the floats of an entry
 
--- an entry of as many floats as xs, at p
-module _ (w : List Float) (p : ℕ) (xs : List Float) where
-  pub stores_outside : SameOutside p (p + length xs) w (store_from w p 0 xs)
-  stores_outside = record { size = stores_length nan w p 0 xs; same = λ i h. stores_other nan w p 0 xs i (rw add-zero h) }
+pub floats_local : (n : ℕ) {B : Type 0} (f : List Float → B) → Local n (λ u o. f (floats_at n u o))
+unfolding floats_at
+floats_local n f w v o z h =
+    ap f
+    (ext_get_or nan (take n (drop o v)) (take n (drop o w)) (simp (length-take, length-drop, z))
+    (λ i k.
+    let j : i < n = omega (arith, length-take n (drop o v)) in
+    simp (get_or-take n (drop o v) i nan j, get_or-take n (drop o w) i nan j, get_or-drop) (h i j)))
 
-  pub stores_read : (j : ℕ) → j < length xs → p + length xs ≤ length w → get_or (store_from w p 0 xs) (p + j) nan ≡ get_or xs j nan
-  stores_read j h l = simp zero-add at (stores_at nan w p 0 xs (rw add-zero l) j h)
+-- e in the place of the n floats at p: the store of a push
+module _ (w e : List Float) (p n : ℕ) (z : length e ≡ n) (h : p + n ≤ length w) where
+  abbrev front : List Float
+  front = take p w
 
--- ---- entries of three floats
+  abbrev behind : List Float
+  behind = drop (p + n - p) (drop p w)
 
-abbrev floats_of : Three → List Float
-floats_of e = e.a ∷ (e.b ∷ (e.c ∷ []))
+  abbrev stored : List Float
+  stored = front ++ (e ++ behind)
 
-module _ (w : List Float) (p : ℕ) (e : Three) where
-  stores_three : store_from w p 0 (floats_of e) ≡ store_three w p e
-  unfolding store_from store_three
-  stores_three = simp add-zero
+  front_long : length front ≡ p
+  front_long = length-take-le p w (omega arith)
 
-  pub three_outside : SameOutside p (p + 3) w (store_three w p e)
-  three_outside = rw (← stores_three) (stores_outside w p (floats_of e))
+  same_before : (i : ℕ) → i < p → get_or stored i nan ≡ get_or w i nan
+  same_before i k = get_or_append_left front (e ++ behind) nan i (rw front_long k) ∙ get_or-take p w i nan k
 
-  pub three_stored : p + 3 ≤ length w → three_at (store_three w p e) p ≡ e
-  unfolding three_at
-  three_stored h =
-      let at : (j : ℕ) → j < 3 → get_or (store_three w p e) (p + j) nan ≡ get_or (floats_of e) j nan = λ j l. rw (← stores_three) (stores_read w p (floats_of e) j l h) in
-      let a : get_or (store_three w p e) p nan ≡ e.a = simp add-zero at (at 0 (omega arith)) in
-      rw (a, at 1 (omega arith), at 2 (omega arith))
+  same_behind : (i : ℕ) → p + n ≤ i → get_or stored i nan ≡ get_or w i nan
+  same_behind i k =
+      let d : p + ((p + n - p) + (i - p - n)) ≡ i = omega arith in
+      get_or-append_right front (e ++ behind) p i nan front_long (omega arith)
+      ∙ (get_or-append_right e behind n (i - p) nan z (omega arith)
+      ∙ (get_or-drop (p + n - p) (drop p w) (i - p - n) nan ∙ (get_or-drop p w ((p + n - p) + (i - p - n)) nan ∙ ap (λ (j : ℕ). get_or w j nan) d)))
 
-pub three_local : {B : Type 0} (f : Three → B) → Local 3 (λ u o. f (three_at u o))
-unfolding three_at
-three_local f w v o h =
-    let a : get_or v o nan ≡ get_or w o nan = simp add-zero at (h 0 (omega arith)) in
-    rw (a, h 1 (omega arith), h 2 (omega arith))
+  pub store_outside : SameOutside p (p + n) w stored
+  store_outside =
+      record { size = simp (length-append, length-drop, front_long, z) (omega arith); same = λ i k. ⊎_elim (same_before i) (same_behind i) k }
+
+  pub store_read : floats_at n stored p ≡ e
+  unfolding floats_at
+  store_read =
+      ap (λ (k : ℕ). take n (drop k stored)) (sym front_long)
+      ∙ (ap (take n) (drop-append_seam front (e ++ behind)) ∙ (ap (λ (k : ℕ). take k (e ++ behind)) (sym z) ∙ take-append_seam e behind))

@@ -1,7 +1,7 @@
 -- The removals of `advance`, one after the other, from what its parts give.
 use Prim.Native.Nat.{ℕ, ◌+◌, ◌≤◌, ◌<◌}
 use mathlib.Core.Path.{◌≡◌, refl, sym, ap, ◌∙◌}
-use mathlib.Core.Bool.{Bool, true, false, cond, true≢false}
+use mathlib.Core.Bool.{Bool, true, false, cond}
 use mathlib.Core.List.{List, [], ◌∷◌, ◌++◌}
 use native.Mathlib.Omega.{arith}
 use lib.Ieee.{Float, lt, le}
@@ -16,11 +16,11 @@ use Rattle.branch.specs.declared.queue.Ring.{Ring}
 use Rattle.branch.specs.declared.video_branch.VideoLayout.{VideoLayout}
 use Rattle.branch.specs.declared.video_branch.VideoBranch.{VideoBranch}
 use Rattle.branch.specs.declared.video_branch.Leak.{Leak as LeakState}
-use Rattle.branch.specs.declared.video_branch.Due.{Due}
-use Rattle.branch.specs.declared.video_branch.Removal.{Removal}
+use Rattle.std.specs.Prelude.{Option, Some, None}
+use Rattle.std.proofs.lemmas.Option.{none-some, cond_some}
 use Rattle.branch.specs.Queue.{Lies, place_of, entries, pop_def}
 use Rattle.branch.specs.VideoBranch.{VideoRates, leak_until, leak_events, Video, Advanced, with_removed, remove_unit, remove_events, advance_from, advance}
-use Rattle.branch.specs.VideoInWork.{unit_at, rates_of, flow_of, leak_of, LeaksTo, video_of, VideoLies, due_now, DueOf, removal_events, RemovedBy, came_to, noted_to, RemovalOf, AdvancedTo}
+use Rattle.branch.specs.VideoInWork.{unit_at, rates_of, flow_of, leak_of, LeaksTo, video_of, VideoLies, due_now, DueOf, until, removal_events, RemovedBy, AdvancedTo}
 use Rattle.branch.proofs.Rings.{popped, lies_popped, count_popped, no_entries_lem}
 
 -- the leak up to a time, in the branch
@@ -30,11 +30,15 @@ leaked r t v =
 
 -- ---- the definition, by its test
 
-advance_none : (r : VideoRates) (f : Float) (us : List AccessUnit) (v : Video) → due_now us f ≡ false
+advance_none : (r : VideoRates) (f : Float) (us : List AccessUnit) (v : Video) → due_now us f ≡ None
     → advance_from r f us v ≡ record { branch = leaked r f v; events = leak_events r f v.leak }
 unfolding due_now advance_from
 advance_none r f [] v h = refl
-advance_none r f (u ∷ us) v h = simp h
+advance_none r f (u ∷ us) v h = none_by (le u.decode_time f) refl
+  where
+    none_by : (b : Bool) → le u.decode_time f ≡ b → advance_from r f (u ∷ us) v ≡ record { branch = leaked r f v; events = leak_events r f v.leak }
+    none_by true e = absurd (none-some u (sym h ∙ simp e))
+    none_by false e = simp e
 
 advance_next : (r : VideoRates) (f : Float) (u : AccessUnit) (us : List AccessUnit) (v : Video) → le u.decode_time f ≡ true
     → advance_from r f (u ∷ us) v
@@ -51,27 +55,26 @@ pending_is v u us = refl
 
 -- ---- the first unit
 
-module _ (w : List Float) (p : Place) (q : Ring) (f : Float) (u : AccessUnit) where
-  module _ (l : Lies 3 w p q) (h : 0 < q.count) (e : u ≡ unit_at w (place_of 3 p q 0)) where
+module _ (w : List Float) (p : Place) (q : Ring) (f : Float) where
+  module _ (u : AccessUnit) (l : Lies 3 w p q) (h : 0 < q.count) (e : u ≡ unit_at w (place_of 3 p q 0)) where
     first_is : entries 3 unit_at w p q ≡ u ∷ entries 3 unit_at w p (pop_def p.depth q)
     first_is = popped 3 unit_at w p q l h ∙ rw e
 
-    tested : due_now (entries 3 unit_at w p q) f ≡ le u.decode_time f
+    tested : due_now (entries 3 unit_at w p q) f ≡ cond (le u.decode_time f) (Some u) None
     unfolding due_now
     tested = ap (λ (z : List AccessUnit). due_now z f) first_is
 
-    pub due_first : le u.decode_time f ≡ true → DueOf w p q f (record { due = true; to = u.decode_time; unit = u })
-    due_first t = record { test = sym (tested ∙ t); until = refl; some = λ x. h; first = λ x. e }
+    pub due_first : le u.decode_time f ≡ true → DueOf w p q f (Some u)
+    due_first t = record { test = sym (tested ∙ simp t); some = λ x z. h }
 
-    pub due_later : le u.decode_time f ≡ false → DueOf w p q f (record { due = false; to = f; unit = u })
-    due_later t = record { test = sym (tested ∙ t); until = refl; some = λ x. h; first = λ x. e }
+    pub due_later : le u.decode_time f ≡ false → DueOf w p q f None
+    due_later t = record { test = sym (tested ∙ simp t); some = λ x z. absurd (none-some x z) }
 
-  pub due_none : q.count ≤ 0 → DueOf w p q f (record { due = false; to = f; unit = u })
+  pub due_none : q.count ≡ 0 → DueOf w p q f None
   unfolding due_now
-  due_none h =
-      let n : q.count ≡ 0 = omega arith in
+  due_none n =
       let z = no_entries_lem 3 unit_at w p q n in
-      record { test = sym (ap (λ (x : List AccessUnit). due_now x f) z); until = refl; some = λ x. absurd (true≢false (sym x)); first = λ x. absurd (true≢false (sym x)) }
+      record { test = sym (ap (λ (x : List AccessUnit). due_now x f) z); some = λ x y. absurd (none-some x y) }
 
 -- ---- the removal of a unit
 
@@ -118,10 +121,22 @@ removed_by m b u k before after x y q e f g h =
       events = λ w. h;
     }
 
--- ---- one removal
+-- ---- one turn of the loop
 
-module _ (w : List Float) (m : VideoLayout) (f : Float) (k : ℕ) (b : VideoBranch) (s s' : Slots) (d : Due) (l : LeakState) (v : VideoLies w m b)
-    (e : DueOf w m.units b.pending f d) (g : LeaksTo w m d.to k s s' (leak_of w m b.leak) l) where
+-- the branch r, with the slots s', comes to what b comes to from the slots s
+pub record Advancing (w : List Float) (m : VideoLayout) (f : Float) (k : ℕ) (b : VideoBranch) (s : Slots) (r : VideoBranch) (s' : Slots) : Type 0 where
+  pub lies : VideoLies w m r
+  pub open_au : r.open_au ≡ b.open_au
+  pub bound : r.access_units + r.pending.count ≤ 18446744073709551615
+  pub state : (advance (rates_of m) f (video_of w m r)).branch ≡ (advance (rates_of m) f (video_of w m b)).branch
+  pub slots : noted_all k (advance (rates_of m) f (video_of w m r)).events s' ≡ noted_all k (advance (rates_of m) f (video_of w m b)).events s
+
+pub advance_starts : (w : List Float) (m : VideoLayout) (f : Float) (k : ℕ) (b : VideoBranch) (s : Slots) → VideoLies w m b → b.access_units + b.pending.count ≤ 18446744073709551615
+    → Advancing w m f k b s b s
+advance_starts w m f k b s v h = record { lies = v; open_au = refl; bound = h; state = refl; slots = refl }
+
+module _ (w : List Float) (m : VideoLayout) (f : Float) (k : ℕ) (b : VideoBranch) (s s' : Slots) (d : Option AccessUnit) (to : Float) (l : LeakState) (v : VideoLies w m b)
+    (e : DueOf w m.units b.pending f d) (t : to ≡ until d f) (g : LeaksTo w m to k s s' (leak_of w m b.leak) l) where
   abbrev R : VideoRates
   R = rates_of m
 
@@ -133,7 +148,7 @@ module _ (w : List Float) (m : VideoLayout) (f : Float) (k : ℕ) (b : VideoBran
   next =
       record { leak = l; pending = b.pending; open_au = b.open_au; queued = b.queued; eb_required = b.eb_required; access_units = b.access_units; max_delay_seconds = b.max_delay_seconds }
 
-  at : video_of w m next ≡ leaked R d.to (video_of w m b)
+  at : video_of w m next ≡ leaked R to (video_of w m b)
   unfolding video_of
   at = rw g.leak.state
 
@@ -141,46 +156,51 @@ module _ (w : List Float) (m : VideoLayout) (f : Float) (k : ℕ) (b : VideoBran
   lies = record { leak = g.leak.lies; pending = v.pending }
 
   -- nothing is due
-  module _ (h : d.due ≡ false) where
-    to : d.to ≡ f
-    to = e.until ∙ rw h
+  module _ (h : d ≡ None) where
+    to_end : to ≡ f
+    to_end = t ∙ rw h
 
     whole : advance R f (video_of w m b) ≡ record { branch = leaked R f (video_of w m b); events = leak_events R f (leak_of w m b.leak) }
     unfolding advance video_of
     whole = advance_none R f us (video_of w m b) (sym e.test ∙ h)
 
-    pub removal_none : RemovalOf w m f k b s (record { more = false; branch = next }) s'
-    unfolding came_to noted_to
-    removal_none =
+    pub advance_ends : {b' : VideoBranch} {s0 : Slots} → Advancing w m f k b' s0 b s → AdvancedTo w m k b'.open_au s0 (advance R f (video_of w m b')) next s'
+    advance_ends inv =
         record {
           lies = lies;
-          open_au = refl;
-          bound = refl;
-          count = λ x. absurd (true≢false (sym x));
-          state = at ∙ (ap (λ (z : Float). leaked R z (video_of w m b)) to ∙ sym (ap (λ (x : Advanced). x.branch) whole));
-          slots = g.events ∙ (ap (λ (z : Float). noted_all k (leak_events R z (leak_of w m b.leak)) s) to ∙ sym (ap (λ (x : Advanced). noted_all k x.events s) whole));
+          open_au = inv.open_au;
+          state = at ∙ (ap (λ (z : Float). leaked R z (video_of w m b)) to_end ∙ (sym (ap (λ (x : Advanced). x.branch) whole) ∙ inv.state));
+          slots =
+              g.events
+              ∙ (ap (λ (z : Float). noted_all k (leak_events R z (leak_of w m b.leak)) s) to_end ∙ (sym (ap (λ (x : Advanced). noted_all k x.events s) whole) ∙ inv.slots));
         }
 
   -- the first unit is due
-  module _ (h : d.due ≡ true) (r : VideoBranch) (s'' : Slots) (x : RemovedBy m next d.unit k s' s'' r) where
-    abbrev u : AccessUnit
-    u = d.unit
-
+  module _ (u : AccessUnit) (h : d ≡ Some u) (r : VideoBranch) (s'' : Slots) (x : RemovedBy m next u k s' s'' r) where
     abbrev rest : List AccessUnit
     rest = entries 3 unit_at w m.units (pop_def m.units.depth b.pending)
 
     some : 0 < b.pending.count
-    some = e.some h
+    some = e.some u h
 
-    due : d.to ≡ u.decode_time
-    due = e.until ∙ rw h
+    due : to ≡ u.decode_time
+    due = t ∙ rw h
+
+    abbrev head : AccessUnit
+    head = unit_at w (place_of 3 m.units b.pending 0)
+
+    by_head : us ≡ head ∷ rest
+    by_head = popped 3 unit_at w m.units b.pending v.pending some
+
+    found : (le head.decode_time f ≡ true) × (head ≡ u)
+    unfolding due_now
+    found = cond_some (le head.decode_time f) head u (ap (λ (z : List AccessUnit). due_now z f) (sym by_head) ∙ (sym e.test ∙ h))
 
     first : us ≡ u ∷ rest
-    first = popped 3 unit_at w m.units b.pending v.pending some ∙ rw (e.first h)
+    first = by_head ∙ rw found.1
 
     test : le u.decode_time f ≡ true
-    unfolding due_now
-    test = ap (λ (z : List AccessUnit). due_now z f) (sym first) ∙ (sym e.test ∙ h)
+    test = rw found.1 at found.0
 
     -- what stands behind the removal
     abbrev behind : Video
@@ -210,60 +230,19 @@ module _ (w : List Float) (m : VideoLayout) (f : Float) (k : ℕ) (b : VideoBran
         ∙ (ap (λ (z : Video). noted_all k (remove_events z u) s') (at ∙ rw due)
         ∙ (ap (noted_all k (remove_events (leaked R u.decode_time (video_of w m b)) u)) leak_slots ∙ sym (noted_all_append_lem k _ _ s)))
 
-    pub removal_some : RemovalOf w m f k b s (record { more = true; branch = r }) s''
-    unfolding came_to noted_to
-    removal_some =
+    pub advance_less : r.pending.count < b.pending.count
+    advance_less = rw x.pending (omega (arith, count_popped m.units.depth b.pending, some))
+
+    pub advance_more : {b' : VideoBranch} {s0 : Slots} → Advancing w m f k b' s0 b s → Advancing w m f k b' s0 r s''
+    advance_more inv =
         let n : (pop_def m.units.depth b.pending).count + 1 ≡ b.pending.count = omega (arith, count_popped m.units.depth b.pending, some) in
         record {
           lies = record { leak = x.lies w lies.leak; pending = rw x.pending (lies_popped w m.units b.pending v.pending some) };
-          open_au = x.open_au;
-          bound = rw (x.pending, x.units) (omega arith);
-          count = λ z. rw x.pending (omega arith);
-          state = ap (λ (z : Advanced). z.branch) (onward) ∙ sym (ap (λ (z : Advanced). z.branch) whole');
+          open_au = x.open_au ∙ inv.open_au;
+          bound = rw (x.pending, x.units) (omega (arith, inv.bound));
+          state = ap (λ (z : Advanced). z.branch) onward ∙ (sym (ap (λ (z : Advanced). z.branch) whole') ∙ inv.state);
           slots =
               ap (λ (z : Advanced). noted_all k z.events s'') onward
-              ∙ (ap (noted_all k (advance_from R f rest behind).events) slots ∙ (sym (noted_all_append_lem k _ _ s) ∙ sym (ap (λ (z : Advanced). noted_all k z.events s) whole')));
+              ∙ (ap (noted_all k (advance_from R f rest behind).events) slots
+              ∙ (sym (noted_all_append_lem k _ _ s) ∙ (sym (ap (λ (z : Advanced). noted_all k z.events s) whole') ∙ inv.slots)));
         }
-
--- ---- the loop
-
-pub record Advancing (w : List Float) (m : VideoLayout) (f : Float) (k : ℕ) (b : VideoBranch) (s : Slots) (r : Removal) (s' : Slots) : Type 0 where
-  pub lies : VideoLies w m r.branch
-  pub open_au : r.branch.open_au ≡ b.open_au
-  pub bound : r.branch.access_units + r.branch.pending.count ≤ 18446744073709551615
-  pub state : came_to r.more (rates_of m) f (video_of w m r.branch) ≡ (advance (rates_of m) f (video_of w m b)).branch
-  pub slots : noted_to r.more k (rates_of m) f (video_of w m r.branch) s' ≡ noted_all k (advance (rates_of m) f (video_of w m b)).events s
-
-pub advance_starts : (w : List Float) (m : VideoLayout) (f : Float) (k : ℕ) (b : VideoBranch) (s : Slots) → VideoLies w m b → b.access_units + b.pending.count ≤ 18446744073709551615
-    → Advancing w m f k b s (record { more = true; branch = b }) s
-unfolding came_to noted_to
-advance_starts w m f k b s v h = record { lies = v; open_au = refl; bound = h; state = refl; slots = refl }
-
--- the turns that are left, at most
-abbrev pub left : Removal → ℕ
-left r = cond r.more (r.branch.pending.count + 1) 0
-
-module _ (w : List Float) (m : VideoLayout) (f : Float) (k : ℕ) (b : VideoBranch) (s s' s'' : Slots) (o r : Removal) (inv : Advancing w m f k b s o s') (h : o.more ≡ true)
-    (x : RemovalOf w m f k o.branch s' r s'') where
-  less_by : (c : Bool) → r.more ≡ c → left r < left o
-  less_by true e = let z = x.count e in simp (h, e) (omega arith)
-  less_by false e = simp (h, e) (omega arith)
-
-  pub advance_less : left r < left o
-  advance_less = less_by r.more refl
-
-  pub advance_more : Advancing w m f k b s r s''
-  unfolding came_to noted_to
-  advance_more =
-      record {
-        lies = x.lies;
-        open_au = x.open_au ∙ inv.open_au;
-        bound = rw x.bound inv.bound;
-        state = x.state ∙ (simp h at inv.state);
-        slots = x.slots ∙ (simp h at inv.slots);
-      }
-
-pub advance_ends : (w : List Float) (m : VideoLayout) (f : Float) (k : ℕ) (b : VideoBranch) (s s' : Slots) (o : Removal) → Advancing w m f k b s o s' → o.more ≡ false
-    → AdvancedTo w m k b.open_au s (advance (rates_of m) f (video_of w m b)) o.branch s'
-unfolding came_to noted_to
-advance_ends w m f k b s s' o inv h = record { lies = inv.lies; open_au = inv.open_au; state = simp h at inv.state; slots = simp h at inv.slots }

@@ -1,7 +1,7 @@
 -- What a packet delivers to a video branch, in terms of the lists in the three rings.
 use Prim.Native.Nat.{ℕ, ◌+◌, ◌*◌, ◌≤◌, ◌<◌}
 use mathlib.Core.Path.{◌≡◌, refl, sym, ap, ◌∙◌}
-use mathlib.Core.Bool.{Bool, true, false, cond, ◌||◌}
+use mathlib.Core.Bool.{Bool, true, false, true≢false, cond, ◌||◌}
 use mathlib.Core.List.{List, [], ◌∷◌, ◌++◌}
 use mathlib.Core.Logic.{◌⊎◌, ◌≢◌, inl, inr}
 use native.Mathlib.Omega.{arith}
@@ -12,25 +12,23 @@ use lib.Ieee.{Float, le, ne, eq}
 use Rattle.ieee.specs.Binary64.{◌⊕◌, 0f, -∞}
 use Rattle.branch.specs.declared.Run.{Run}
 use Rattle.branch.specs.declared.AccessUnit.{AccessUnit}
-use Rattle.branch.specs.declared.HeaderMark.{HeaderMark}
 use Rattle.branch.specs.declared.Delivered.{Delivered}
-use Rattle.branch.specs.declared.inflow.PushedRun.{PushedRun}
+use Rattle.branch.specs.declared.inflow.CumulativeIn.{CumulativeIn}
+use Rattle.std.specs.Prelude.{Option, Some, None}
 use Rattle.branch.specs.declared.queue.Ring.{Ring}
-use Rattle.branch.specs.declared.queue.Three.{Three}
-use Rattle.branch.specs.declared.queue.Pushed.{Pushed}
 use Rattle.branch.specs.declared.video_branch.VideoLayout.{VideoLayout}
 use Rattle.branch.specs.declared.video_branch.VideoBranch.{VideoBranch}
 use Rattle.branch.specs.declared.video_branch.Leak.{Leak as LeakState}
 use Rattle.branch.specs.declared.video_branch.Stepped.{Stepped}
-use Rattle.branch.specs.Queue.{Lies, SameOutside, three_at, entries, PushedTo}
-use Rattle.branch.specs.CumulativeIn.{Inflow, push_run, run_refused}
+use Rattle.branch.specs.Queue.{Lies, SameOutside, floats_at, entries, PushedTo}
+use Rattle.branch.specs.CumulativeIn.{Inflow, run_refused}
 use Rattle.branch.specs.InflowInWork.{run_of, inflow_of, RunPushedTo}
 use Rattle.branch.specs.MainBranch.{none, unit, grown, open_of, stamp_of}
-use Rattle.branch.specs.MainInWork.{unit_of, no_unit}
+use Rattle.branch.specs.MainInWork.{unit_of, floats_of_unit, no_unit}
 use Rattle.branch.specs.VideoBranch.{pushed_leak, push_video}
 use Rattle.branch.specs.VideoStep.{VideoChain, VideoFed, refused, fed, and_then, with_pending, close_by, close_au, open_unit, add_run}
-use Rattle.branch.specs.VideoInWork.{mark_at, unit_at, flow_of, leak_of, LeakLies, video_of, VideoLies, chain_of, Apart, VideoFedTo, queued_run, QueuedTo, marked_leak, marked_run, MarkedTo}
-use Rattle.branch.proofs.Rings.{kept, count_entries, three_local, lies_kept, outside_refl, outside_then, outside_wider, push_full, push_refused, push_adds, push_lies, push_outside}
+use Rattle.branch.specs.VideoInWork.{mark_of, mark_at, unit_at, flow_of, leak_of, LeakLies, video_of, VideoLies, chain_of, Apart, VideoFedTo, queued_run, QueuedTo, marked_leak, marked_run, MarkedTo}
+use Rattle.branch.proofs.Rings.{kept, count_entries, floats_local, lies_kept, outside_refl, outside_then, outside_wider, push_room, push_refused, push_adds, push_lies, push_outside}
 use Rattle.branch.proofs.HeaderMarks.{mark_local}
 
 -- ---- a change of the work elsewhere
@@ -39,12 +37,12 @@ leak_kept : {lo hi : ℕ} (w v : List Float) (m : VideoLayout) (l : LeakState) �
     → (m.marks.base + 2 * m.marks.depth ≤ lo) ⊎ (hi ≤ m.marks.base) → leak_of v m l ≡ leak_of w m l
 unfolding leak_of flow_of
 leak_kept w v m l a o h k =
-    rw (kept 3 (λ u i. run_of (three_at u i)) (three_local run_of) m.runs l.mb_in.runs a.runs o h, kept 2 mark_at mark_local m.marks l.flow.marks a.marks o k)
+    rw (kept 3 (λ u i. run_of (floats_at 3 u i)) (floats_local 3 run_of) m.runs l.mb_in.runs a.runs o h, kept 2 mark_at mark_local m.marks l.flow.marks a.marks o k)
 
 units_kept : {lo hi : ℕ} (w v : List Float) (m : VideoLayout) (q : Ring) → Lies 3 w m.units q → SameOutside lo hi w v → (m.units.base + 3 * m.units.depth ≤ lo) ⊎ (hi ≤ m.units.base)
     → entries 3 unit_at v m.units q ≡ entries 3 unit_at w m.units q
 unfolding unit_at
-units_kept w v m q a o h = kept 3 (λ u i. unit_of (three_at u i)) (three_local unit_of) m.units q a o h
+units_kept w v m q a o h = kept 3 (λ u i. unit_of (floats_at 3 u i)) (floats_local 3 unit_of) m.units q a o h
 
 -- ---- a branch that is left as it is
 
@@ -72,49 +70,49 @@ module _ (w : List Float) (m : VideoLayout) (b : VideoBranch) (d : ℕ) where
   unfolding close_au close_by chain_of open_of video_of
   close_unit e = simp (e, count_entries 3 unit_at w m.units b.pending)
 
-abbrev entry_of : AccessUnit → Three
-entry_of u = record { a = u.decode_time; b = u.bytes; c = u.first_input_time }
+module _ (w v : List Float) (m : VideoLayout) (b : VideoBranch) (l : VideoLies w m b) (a : Apart m) (isOpen : ne b.open_au.decode_time -∞ ≡ true) (r : Option Ring)
+    (p : PushedTo 3 w m.units b.pending (floats_of_unit b.open_au) r v) where
+  count_is : (c : Bool) → eqb b.pending.count m.units.depth ≡ c → eqb b.pending.count m.runs.depth ≡ c
+  count_is c f = ap (eqb b.pending.count) (sym a.units_depth) ∙ f
 
-module _ (w v : List Float) (m : VideoLayout) (b : VideoBranch) (l : VideoLies w m b) (a : Apart m) (r : Pushed) (isOpen : ne b.open_au.decode_time -∞ ≡ true)
-    (p : PushedTo 3 three_at w m.units b.pending (entry_of b.open_au) r v) where
-  count_is : (c : Bool) → r.full ≡ c → eqb b.pending.count m.runs.depth ≡ c
-  count_is c f = ap (eqb b.pending.count) (sym a.units_depth) ∙ (sym (push_full l.pending p) ∙ f)
+  pub close_full : r ≡ None → VideoFedTo w m b (close_au m.runs.depth (chain_of w m b)) (record { full = true; branch = b }) v
+  close_full f =
+      let k = push_refused l.pending p f in
+      rw k.0 (fed_refused w m b _ l (close_unit w m b m.runs.depth isOpen ∙ rw (count_is true k.1)))
 
-  pub close_full : r.full ≡ true → VideoFedTo w m b (close_au m.runs.depth (chain_of w m b)) (record { full = true; branch = b }) v
-  close_full f = rw (push_refused l.pending p f).0 (fed_refused w m b _ l (close_unit w m b m.runs.depth isOpen ∙ rw (count_is true f)))
+  module _ (q : Ring) (f : r ≡ Some q) where
+    abbrev closed : VideoBranch
+    closed =
+        record {
+          leak = b.leak;
+          pending = q;
+          open_au = no_unit;
+          queued = b.queued;
+          eb_required = b.eb_required;
+          access_units = b.access_units;
+          max_delay_seconds = b.max_delay_seconds;
+        }
 
-  abbrev closed : VideoBranch
-  closed =
-      record {
-        leak = b.leak;
-        pending = r.ring;
-        open_au = no_unit;
-        queued = b.queued;
-        eb_required = b.eb_required;
-        access_units = b.access_units;
-        max_delay_seconds = b.max_delay_seconds;
-      }
+    units_added : entries 3 unit_at v m.units q ≡ entries 3 unit_at w m.units b.pending ++ (b.open_au ∷ [])
+    unfolding unit_at
+    units_added = push_adds l.pending p q f unit_of (floats_local 3 unit_of)
 
-  units_added : r.full ≡ false → entries 3 unit_at v m.units r.ring ≡ entries 3 unit_at w m.units b.pending ++ (b.open_au ∷ [])
-  unfolding unit_at
-  units_added f = push_adds l.pending p unit_of (three_local unit_of) f
-
-  pub close_pushed : r.full ≡ false → VideoFedTo w m b (close_au m.runs.depth (chain_of w m b)) (record { full = false; branch = closed }) v
-  unfolding chain_of video_of with_pending
-  close_pushed f =
-      let o = push_outside l.pending p in
-      let e : close_au m.runs.depth (chain_of w m b) ≡ fed (record { branch = with_pending (video_of w m b) (entries 3 unit_at w m.units b.pending ++ (b.open_au ∷ [])); open_au = none }) =
-      close_unit w m b m.runs.depth isOpen ∙ rw (count_is false f) in
-      let u = a.units in
-      let k = a.marks in
-      rw e
-      (record {
-        lies = record { leak = record { runs = lies_kept o l.leak.runs; marks = lies_kept o l.leak.marks }; pending = push_lies l.pending p };
-        outside = outside_wider (omega arith) (omega arith) o;
-        full = refl;
-        state = rw (leak_kept w v m b.leak l.leak o (inl u) (inr k), units_added f, open_none);
-        units = refl;
-      })
+    pub close_pushed : VideoFedTo w m b (close_au m.runs.depth (chain_of w m b)) (record { full = false; branch = closed }) v
+    unfolding chain_of video_of with_pending
+    close_pushed =
+        let o = push_outside l.pending p in
+        let e : close_au m.runs.depth (chain_of w m b) ≡ fed (record { branch = with_pending (video_of w m b) (entries 3 unit_at w m.units b.pending ++ (b.open_au ∷ [])); open_au = none }) =
+        close_unit w m b m.runs.depth isOpen ∙ rw (count_is false (push_room l.pending p q f)) in
+        let u = a.units in
+        let k = a.marks in
+        rw e
+        (record {
+          lies = record { leak = record { runs = lies_kept o l.leak.runs; marks = lies_kept o l.leak.marks }; pending = push_lies l.pending p q f };
+          outside = outside_wider (omega arith) (omega arith) o;
+          full = refl;
+          state = rw (leak_kept w v m b.leak l.leak o (inl u) (inr k), units_added, open_none);
+          units = refl;
+        })
 
 -- ---- one after the other
 
@@ -188,13 +186,13 @@ unfolding open_of grown
 open_by true u x e = simp e
 open_by false u x e = simp e
 
-module _ (w v : List Float) (m : VideoLayout) (b : VideoBranch) (run : Run) (metric : Float) (l : VideoLies w m b) (a : Apart m) (r : PushedRun)
+module _ (w v : List Float) (m : VideoLayout) (b : VideoBranch) (run : Run) (metric : Float) (l : VideoLies w m b) (a : Apart m) (r : Option CumulativeIn)
     (p : RunPushedTo w m.runs b.leak.mb_in run r v) where
-  abbrev queued : VideoBranch
-  queued =
+  abbrev queued : CumulativeIn → VideoBranch
+  queued i =
       record {
         leak = record {
-          mb_in = r.inflow;
+          mb_in = i;
           flow = b.leak.flow;
           busy_since = b.leak.busy_since;
           longest_busy = b.leak.longest_busy;
@@ -215,69 +213,41 @@ module _ (w v : List Float) (m : VideoLayout) (b : VideoBranch) (run : Run) (met
   units_same : entries 3 unit_at v m.units b.pending ≡ entries 3 unit_at w m.units b.pending
   units_same = units_kept w v m b.pending l.pending p.outside (inr a.units)
 
-  pub run_queued : r.full ≡ false → QueuedTo w m b run metric (record { full = false; branch = queued }) v
+  pub run_queued : (i : CumulativeIn) → r ≡ Some i → QueuedTo w m b run metric (record { full = false; branch = queued i }) v
   unfolding chain_of video_of leak_of flow_of queued_run pushed_leak
-  run_queued f =
-      let i : inflow_of v m.runs r.inflow ≡ push_run (inflow_of w m.runs b.leak.mb_in) run = p.state ∙ rw f in
+  run_queued i f =
+      let k = p.taken i f in
       record {
-        lies = record { leak = record { runs = p.lies; marks = lies_kept p.outside l.leak.marks }; pending = lies_kept p.outside l.pending };
+        lies = record { leak = record { runs = k.lies; marks = lies_kept p.outside l.leak.marks }; pending = lies_kept p.outside l.pending };
         outside = p.outside;
         units = refl;
         marks = refl;
-        full = sym f ∙ p.full;
-        state = rw (i, marks_same, units_same, open_by (ne b.open_au.decode_time -∞) b.open_au metric refl);
+        full = sym k.room;
+        state = rw (k.state, marks_same, units_same, open_by (ne b.open_au.decode_time -∞) b.open_au metric refl);
       }
 
-  pub run_refused_lem : r.full ≡ true
-      → QueuedTo w m b run metric
-      (record {
-        full = true;
-        branch = record {
-          leak = record {
-            mb_in = r.inflow;
-            flow = b.leak.flow;
-            busy_since = b.leak.busy_since;
-            longest_busy = b.leak.longest_busy;
-            mb_peak = b.leak.mb_peak;
-            proc_time = b.leak.proc_time;
-          };
-          pending = b.pending;
-          open_au = b.open_au;
-          queued = b.queued;
-          eb_required = b.eb_required;
-          access_units = b.access_units;
-          max_delay_seconds = b.max_delay_seconds;
-        };
-      })
-      v
-  unfolding chain_of video_of leak_of flow_of
+  pub run_refused_lem : r ≡ None → QueuedTo w m b run metric (record { full = true; branch = b }) v
   run_refused_lem f =
-      let i : inflow_of v m.runs r.inflow ≡ inflow_of w m.runs b.leak.mb_in = p.state ∙ rw f in
-      record {
-        lies = record { leak = record { runs = p.lies; marks = lies_kept p.outside l.leak.marks }; pending = lies_kept p.outside l.pending };
-        outside = p.outside;
-        units = refl;
-        marks = refl;
-        full = sym f ∙ p.full;
-        state = rw (i, marks_same, units_same);
-      }
+      let k = p.refused f in
+      rw k.0 (record { lies = l; outside = outside_refl _ _ w; units = refl; marks = refl; full = sym k.1; state = refl })
 
 -- ---- a mark
 
-module _ (w v : List Float) (m : VideoLayout) (b : VideoBranch) (bytes : Float) (l : VideoLies w m b) (a : Apart m) (h : b.leak.flow.marks.count < m.marks.depth) (r : Pushed)
-    (p : PushedTo 2 mark_at w m.marks b.leak.flow.marks (record { threshold = b.queued; bytes = bytes }) r v) where
-  not_full : r.full ≡ false
-  not_full = push_full l.leak.marks p ∙ ne_eqb b.leak.flow.marks.count m.marks.depth (λ e. omega arith)
+module _ (w v : List Float) (m : VideoLayout) (b : VideoBranch) (bytes : Float) (l : VideoLies w m b) (a : Apart m) (r : Option Ring)
+    (p : PushedTo 2 w m.marks b.leak.flow.marks (b.queued ∷ (bytes ∷ [])) r v) where
+  pub mark_finds_room : b.leak.flow.marks.count < m.marks.depth → r ≡ None → ⊥
+  mark_finds_room h f = true≢false (sym (push_refused l.leak.marks p f).1 ∙ ne_eqb b.leak.flow.marks.count m.marks.depth (λ e. omega arith))
 
-  marks_added : entries 2 mark_at v m.marks r.ring ≡ entries 2 mark_at w m.marks b.leak.flow.marks ++ (record { threshold = b.queued; bytes = bytes } ∷ [])
-  marks_added = push_adds l.leak.marks p (λ (x : HeaderMark). x) mark_local not_full
+  marks_added : (q : Ring) → r ≡ Some q → entries 2 mark_at v m.marks q ≡ entries 2 mark_at w m.marks b.leak.flow.marks ++ (record { threshold = b.queued; bytes = bytes } ∷ [])
+  unfolding mark_at
+  marks_added q f = push_adds l.leak.marks p q f mark_of (floats_local 2 mark_of)
 
-  pub run_marked : MarkedTo w m b bytes
+  pub run_marked : (q : Ring) → r ≡ Some q → MarkedTo w m b bytes
       (record {
         leak = record {
           mb_in = b.leak.mb_in;
           flow = record {
-            marks = r.ring;
+            marks = q;
             transferred = b.leak.flow.transferred;
             eb_in = b.leak.flow.eb_in;
             eb_removed = b.leak.flow.eb_removed;
@@ -297,16 +267,16 @@ module _ (w v : List Float) (m : VideoLayout) (b : VideoBranch) (bytes : Float) 
       })
       v
   unfolding chain_of video_of leak_of flow_of marked_run marked_leak
-  run_marked =
+  run_marked q f =
       let o = push_outside l.leak.marks p in
       let x = a.units in
       let y = a.marks in
-      let runs = kept 3 (λ u i. run_of (three_at u i)) (three_local run_of) m.runs b.leak.mb_in.runs l.leak.runs o (inl (omega arith)) in
+      let runs = kept 3 (λ u i. run_of (floats_at 3 u i)) (floats_local 3 run_of) m.runs b.leak.mb_in.runs l.leak.runs o (inl (omega arith)) in
       record {
-        lies = record { leak = record { runs = lies_kept o l.leak.runs; marks = push_lies l.leak.marks p }; pending = lies_kept o l.pending };
+        lies = record { leak = record { runs = lies_kept o l.leak.runs; marks = push_lies l.leak.marks p q f }; pending = lies_kept o l.pending };
         outside = o;
         units = refl;
-        state = rw (runs, marks_added, units_kept w v m b.pending l.pending o (inl y));
+        state = rw (runs, marks_added q f, units_kept w v m b.pending l.pending o (inl y));
       }
 
 -- ---- the runs of a packet

@@ -1,14 +1,16 @@
 -- The turns of the leak by their tests, over lists and floats, and from what the parts of a turn give.
 use Prim.Native.Nat.{ℕ, zero, suc, ◌-◌, ◌≤◌, ◌<◌}
 use mathlib.Core.Path.{◌≡◌, refl, sym, ap, ◌∙◌}
-use mathlib.Core.Bool.{Bool, true, false, cond, true≢false}
+use mathlib.Core.Bool.{Bool, true, false, cond}
 use mathlib.Core.List.{List, []}
 use native.Mathlib.Omega.{arith}
 use lib.Ieee.{Float, lt, le, eq}
 use Rattle.ieee.specs.Binary64.{◌⊕◌, ◌⊖◌, ◌⊗◌, ◌⊘◌, 0f, 1f, 1e-6f, -∞}
 use Rattle.ieee.specs.MaxMin.{max_of, min_of}
-use Rattle.branch.specs.declared.inflow.ArrivalTime.{ArrivalTime}
-use Rattle.branch.specs.declared.inflow.ArrivalTime.TheVariants.{At, NotQueued}
+use Rattle.std.specs.Prelude.{not, Option, Some, None}
+use Rattle.std.specs.Option.{is_some}
+use Rattle.std.proofs.lemmas.Option.{none-some}
+use Rattle.branch.proofs.Rings.{some_is}
 use Rattle.branch.specs.declared.inflow.Arrived.{Arrived}
 use Rattle.branch.specs.InflowInWork.{inflow_of, ArrivedTo}
 use Rattle.branch.specs.declared.video_branch.VideoLayout.{VideoLayout}
@@ -53,17 +55,17 @@ module _ (S : Leak) (t : Float) where
   unfolding pace_take
   take_by a room arr m take e f g = g ∙ rw (e, f)
 
-  pub found_by : (b c : Float) (i : Inflow) (f : Transfer) (r : ArrivalTime) → i ≡ settle S.mb_in t → f ≡ transfer S.flow c → c ≡ b → r ≡ time_of_cumulative i f.transferred
+  pub found_by : (b c : Float) (i : Inflow) (f : Transfer) (r : Option Float) → i ≡ settle S.mb_in t → f ≡ transfer S.flow c → c ≡ b → r ≡ time_of_cumulative i f.transferred
       → time_of_cumulative (settle S.mb_in t) (transfer S.flow b).transferred ≡ r
   found_by b c i f r e g h k = sym (k ∙ rw (e, g, h))
 
   module _ (a room take arr : Float) (p : take ≡ pace_take S t a room) (q : arr ≡ arriving S t a) where
-    pub paced_on : (tt : Float) → lt (take ⊕ 1f) arr ≡ true → time_of_cumulative (settle S.mb_in t) (transfer S.flow (max_of take 0f)).transferred ≡ At tt
+    pub paced_on : (tt : Float) → lt (take ⊕ 1f) arr ≡ true → time_of_cumulative (settle S.mb_in t) (transfer S.flow (max_of take 0f)).transferred ≡ Some tt
         → paced S t a room ≡ on (gone S t (max_of take 0f) (max_of tt S.proc_time))
     unfolding paced filled
     paced_on tt h e = rw (← p, ← q) (simp (h, e))
 
-    pub paced_off : lt (take ⊕ 1f) arr ≡ true → time_of_cumulative (settle S.mb_in t) (transfer S.flow (max_of take 0f)).transferred ≡ NotQueued
+    pub paced_off : lt (take ⊕ 1f) arr ≡ true → time_of_cumulative (settle S.mb_in t) (transfer S.flow (max_of take 0f)).transferred ≡ None
         → paced S t a room ≡ break (gone S t (max_of take 0f) t)
     unfolding paced filled
     paced_off h e = rw (← p, ← q) (simp (h, e))
@@ -116,22 +118,25 @@ module _ (w : List Float) (m : VideoLayout) (l : LeakState) (t a room mx take b 
   unfolding leak_of
   seen = settled_at_lem _ _ t got.total g.after.state g.total
 
-  found : (r : ArrivalTime) → r ≡ time_of_cumulative (inflow_of w m.runs got.inflow) f.transferred → time_of_cumulative (settle S.mb_in t) (transfer S.flow (max_of take 0f)).transferred ≡ r
+  seen_at : (x : Float) → Some got.total ≡ Some x → SettledAt (leak_of w m (at t)).mb_in t x
+  seen_at x f = rw (← some_is f) seen
+
+  found : (r : Option Float) → r ≡ time_of_cumulative (inflow_of w m.runs got.inflow) f.transferred → time_of_cumulative (settle S.mb_in t) (transfer S.flow (max_of take 0f)).transferred ≡ r
   unfolding leak_of flow_of
   found r k = found_by S t (max_of take 0f) b _ (flow_of w m.marks f) r g.after.state x.state p2 k
 
-  pub paced_fills : (r : ArrivalTime) (tt y : Float) → lt (take ⊕ 1f) arr ≡ true → r ≡ time_of_cumulative (inflow_of w m.runs got.inflow) f.transferred → r ≡ At tt → y ≡ max_of tt l.proc_time
-      → TurnIs w m t (record { more = true; total = got.total; leak = at y }) (paced S t a room)
+  pub paced_fills : (r : Option Float) (tt y : Float) → lt (take ⊕ 1f) arr ≡ true → r ≡ time_of_cumulative (inflow_of w m.runs got.inflow) f.transferred → r ≡ Some tt → y ≡ max_of tt l.proc_time
+      → TurnIs w m t (record { total = None; leak = at y }) (paced S t a room)
   unfolding leak_of
   paced_fills r tt y h k e z =
-      rw (paced_on S t a room take arr take_is arr_is tt h (found r k ∙ e)) (record { more = refl; leak = gone_is y _ z; seen = λ f. absurd (true≢false f) })
+      rw (paced_on S t a room take arr take_is arr_is tt h (found r k ∙ e)) (record { more = refl; leak = gone_is y _ z; seen = λ x f. absurd (none-some x f) })
 
-  pub paced_unfound : (r : ArrivalTime) → lt (take ⊕ 1f) arr ≡ true → r ≡ time_of_cumulative (inflow_of w m.runs got.inflow) f.transferred → r ≡ NotQueued
-      → TurnIs w m t (record { more = false; total = got.total; leak = at t }) (paced S t a room)
-  paced_unfound r h k e = rw (paced_off S t a room take arr take_is arr_is h (found r k ∙ e)) (record { more = refl; leak = gone_is t t refl; seen = λ f. seen })
+  pub paced_unfound : (r : Option Float) → lt (take ⊕ 1f) arr ≡ true → r ≡ time_of_cumulative (inflow_of w m.runs got.inflow) f.transferred → r ≡ None
+      → TurnIs w m t (record { total = Some got.total; leak = at t }) (paced S t a room)
+  paced_unfound r h k e = rw (paced_off S t a room take arr take_is arr_is h (found r k ∙ e)) (record { more = refl; leak = gone_is t t refl; seen = λ x f. seen_at x f })
 
-  pub paced_through : lt (take ⊕ 1f) arr ≡ false → TurnIs w m t (record { more = false; total = got.total; leak = at t }) (paced S t a room)
-  paced_through h = rw (paced_all S t a room take arr take_is arr_is h) (record { more = refl; leak = gone_is t t refl; seen = λ f. seen })
+  pub paced_through : lt (take ⊕ 1f) arr ≡ false → TurnIs w m t (record { total = Some got.total; leak = at t }) (paced S t a room)
+  paced_through h = rw (paced_all S t a room take arr take_is arr_is h) (record { more = refl; leak = gone_is t t refl; seen = λ x f. seen_at x f })
 
 -- ---- a turn, from its parts
 
@@ -156,19 +161,22 @@ module _ (w : List Float) (m : VideoLayout) (t a v room : Float) (S : Leak) (l :
   paced_turn x h k y = rw (step_paced (rates_of m) t S a room h (rw q at k)) (rw (e.state, q) at y)
 
   pub backlogged_turn : (x : LeakState) → le room 1f ≡ false → le v 1f ≡ false → LeakIs w m x (backlogged (rates_of m) (leak_of w m l) t v room)
-      → TurnIs w m t (record { more = true; total = 0f; leak = x }) (step (rates_of m) t S a room)
-  backlogged_turn x h k y = rw (step_backlogged (rates_of m) t S a room h (rw q at k)) (record { more = refl; leak = rw (e.state, q) at y; seen = λ f. absurd (true≢false f) })
+      → TurnIs w m t (record { total = None; leak = x }) (step (rates_of m) t S a room)
+  backlogged_turn x h k y = rw (step_backlogged (rates_of m) t S a room h (rw q at k)) (record { more = refl; leak = rw (e.state, q) at y; seen = λ z f. absurd (none-some z f) })
 
 -- ---- the loop: what is left of the budget gives from here what the whole budget gives from the start
 
+abbrev pub turned : List Float → VideoLayout → TurnState → Turned
+turned w m s = record { more = not (is_some s.total); leak = leak_of w m s.leak }
+
 pub record Turning (w : List Float) (m : VideoLayout) (t : Float) (S : Leak) (left : ℕ) (s : TurnState) : Type 0 where
   pub lies : LeakLies w m s.leak
-  pub rest : (turns left (rates_of m) t (record { more = s.more; leak = leak_of w m s.leak })).leak ≡ ran (rates_of m) t S
-  pub seen : s.more ≡ false → SettledAt (leak_of w m s.leak).mb_in t s.total
+  pub rest : (turns left (rates_of m) t (turned w m s)).leak ≡ ran (rates_of m) t S
+  pub seen : (total : Float) → s.total ≡ Some total → SettledAt (leak_of w m s.leak).mb_in t total
 
-pub turns_start : (w : List Float) (m : VideoLayout) (t : Float) (l : LeakState) → LeakLies w m l → Turning w m t (leak_of w m l) 33554436 (record { more = true; total = 0f; leak = l })
+pub turns_start : (w : List Float) (m : VideoLayout) (t : Float) (l : LeakState) → LeakLies w m l → Turning w m t (leak_of w m l) 33554436 (record { total = None; leak = l })
 unfolding ran
-turns_start w m t l v = record { lies = v; rest = refl; seen = λ f. absurd (true≢false f) }
+turns_start w m t l v = record { lies = v; rest = refl; seen = λ x f. absurd (none-some x f) }
 
 turn_on : (r : VideoRates) (t : Float) (S : Leak) → lt S.proc_time (t ⊖ 1e-6f) ≡ true → turn r t S ≡ step r t (looked S) (mb_fullness S S.proc_time) (eb_room r S.flow)
 unfolding turn
@@ -190,15 +198,15 @@ opened k r t S h =
     ap (λ (n : ℕ). turns n r t (on S)) z
 
 module _ (w : List Float) (m : VideoLayout) (t : Float) (S : Leak) (left : ℕ) (s : TurnState) (inv : Turning w m t S left s) where
-  state : (b : Bool) → s.more ≡ b → ◌≡◌ {A = Turned} (record { more = s.more; leak = leak_of w m s.leak }) (record { more = b; leak = leak_of w m s.leak })
+  state : (b : Bool) → is_some s.total ≡ b → ◌≡◌ {A = Turned} (turned w m s) (record { more = not b; leak = leak_of w m s.leak })
   state b e = rw e
 
   ended : leak_of w m s.leak ≡ ran (rates_of m) t S → TurnsEnd w m t s (ran (rates_of m) t S)
   ended e = record { leak = record { lies = inv.lies; state = e }; seen = inv.seen }
 
-  pub turns_stop : s.more ≡ false → TurnsEnd w m t s (ran (rates_of m) t S)
+  pub turns_stop : is_some s.total ≡ true → TurnsEnd w m t s (ran (rates_of m) t S)
   turns_stop e =
-      let z = ap (λ (x : Turned). (turns left (rates_of m) t x).leak) (state false e) in
+      let z = ap (λ (x : Turned). (turns left (rates_of m) t x).leak) (state true e) in
       let y = ap (λ (x : Turned). x.leak) (stopped left (rates_of m) t (leak_of w m s.leak)) in
       ended (sym y ∙ (sym z ∙ inv.rest))
 
@@ -206,11 +214,11 @@ module _ (w : List Float) (m : VideoLayout) (t : Float) (S : Leak) (left : ℕ) 
   unfolding turns
   turns_end h =
       let z : left ≡ 0 = omega arith in
-      ended (sym (ap (λ (k : ℕ). (turns k (rates_of m) t (record { more = s.more; leak = leak_of w m s.leak })).leak) z) ∙ inv.rest)
+      ended (sym (ap (λ (k : ℕ). (turns k (rates_of m) t (turned w m s)).leak) z) ∙ inv.rest)
 
-  module _ (h : 0 < left) (e : s.more ≡ true) where
-    next : turns left (rates_of m) t (record { more = s.more; leak = leak_of w m s.leak }) ≡ turns (left - 1) (rates_of m) t (turn (rates_of m) t (leak_of w m s.leak))
-    next = ap (turns left (rates_of m) t) (state true e) ∙ opened left (rates_of m) t (leak_of w m s.leak) h
+  module _ (h : 0 < left) (e : is_some s.total ≡ false) where
+    next : turns left (rates_of m) t (turned w m s) ≡ turns (left - 1) (rates_of m) t (turn (rates_of m) t (leak_of w m s.leak))
+    next = ap (turns left (rates_of m) t) (state false e) ∙ opened left (rates_of m) t (leak_of w m s.leak) h
 
     pub turns_done : lt (leak_of w m s.leak).proc_time (t ⊖ 1e-6f) ≡ false → TurnsEnd w m t s (ran (rates_of m) t S)
     turns_done k =
@@ -221,7 +229,7 @@ module _ (w : List Float) (m : VideoLayout) (t : Float) (S : Leak) (left : ℕ) 
         → TurnIs w m t x (step (rates_of m) t (looked (leak_of w m s.leak)) (mb_fullness (leak_of w m s.leak) (leak_of w m s.leak).proc_time) (eb_room (rates_of m) (leak_of w m s.leak).flow))
         → Turning w m t S (left - 1) x
     turns_more x k y =
-        let z : record { more = x.more; leak = leak_of w m x.leak } ≡ turn (rates_of m) t (leak_of w m s.leak) = rw (y.more, y.leak.state) (sym (turn_on (rates_of m) t (leak_of w m s.leak) k)) in
+        let z : turned w m x ≡ turn (rates_of m) t (leak_of w m s.leak) = rw (y.more, y.leak.state) (sym (turn_on (rates_of m) t (leak_of w m s.leak) k)) in
         record {
           lies = y.leak.lies;
           rest = ap (λ (u : Turned). (turns (left - 1) (rates_of m) t u).leak) z ∙ (sym (ap (λ (u : Turned). u.leak) next) ∙ inv.rest);
@@ -231,13 +239,13 @@ module _ (w : List Float) (m : VideoLayout) (t : Float) (S : Leak) (left : ℕ) 
 -- ---- the leak: the turns, and the closing
 
 pub reached_by : (w : List Float) (m : VideoLayout) (t : Float) (l : LeakState) (got : Arrived) → LeakLies w m l → ArrivedTo w m.runs l.mb_in t got
-    → ReachedBy w m t l (record { more = false; total = got.total; leak = record { mb_in = got.inflow; flow = l.flow; busy_since = l.busy_since; longest_busy = l.longest_busy; mb_peak = l.mb_peak; proc_time = l.proc_time } })
+    → ReachedBy w m t l (record { mb_in = got.inflow; flow = l.flow; busy_since = l.busy_since; longest_busy = l.longest_busy; mb_peak = l.mb_peak; proc_time = l.proc_time }) got.total
 unfolding leak_of settled_leak
-reached_by w m t l got v g = record { leak = record { lies = record { runs = g.after.lies; marks = v.marks }; state = rw g.after.state }; total = g.total }
+reached_by w m t l got v g = record { leak = record { lies = record { runs = g.after.lies; marks = v.marks }; state = rw g.after.state }; arrived = g.total }
 
-pub reached_again : (w : List Float) (m : VideoLayout) (t : Float) (s : TurnState) → LeakLies w m s.leak → SettledAt (leak_of w m s.leak).mb_in t s.total → ReachedBy w m t s.leak s
+pub reached_again : (w : List Float) (m : VideoLayout) (t : Float) (l : LeakState) (total : Float) → LeakLies w m l → SettledAt (leak_of w m l).mb_in t total → ReachedBy w m t l l total
 unfolding leak_of settled_leak
-reached_again w m t s v e = record { leak = record { lies = v; state = rw e.inflow }; total = e.arrived }
+reached_again w m t l total v e = record { leak = record { lies = v; state = rw e.inflow }; arrived = e.arrived }
 
 pub closed_state_lem : (l : LeakState) (total t a b c : Float) → a ≡ cond (eq l.busy_since -∞) l.longest_busy (max_of l.longest_busy (t ⊖ l.busy_since)) → b ≡ max_of l.mb_peak (total ⊖ l.flow.transferred) → c ≡ max_of l.proc_time t
     → record { mb_in = l.mb_in; flow = l.flow; busy_since = l.busy_since; longest_busy = a; mb_peak = b; proc_time = c } ≡ closed_state l total t
@@ -272,34 +280,34 @@ leak_first w m t k s l v h =
     let e = leak_started (rates_of m) t (leak_of w m l) h in
     record { leak = record { lies = record { runs = v.runs; marks = v.marks }; state = sym e.0 }; events = sym (ap (λ (x : List Event). noted_all k x s) e.1) }
 
-module _ (w : List Float) (m : VideoLayout) (t : Float) (k : ℕ) (before after : Slots) (l : LeakState) (s e : TurnState) (r : LeakState) (h : eq l.proc_time -∞ ≡ false)
-    (a : TurnsEnd w m t s (ran (rates_of m) t (leak_of w m l))) (b : ReachedBy w m t s.leak e) (c : ClosedBy m e.leak e.total t k before after r) where
+module _ (w : List Float) (m : VideoLayout) (t : Float) (k : ℕ) (before after : Slots) (l : LeakState) (s : TurnState) (e r : LeakState) (amount : Float) (h : eq l.proc_time -∞ ≡ false)
+    (a : TurnsEnd w m t s (ran (rates_of m) t (leak_of w m l))) (b : ReachedBy w m t s.leak e amount) (c : ClosedBy m e amount t k before after r) where
   abbrev R : Leak
   R = ran (rates_of m) t (leak_of w m l)
 
-  reached : leak_of w m e.leak ≡ settled_leak R t
+  reached : leak_of w m e ≡ settled_leak R t
   reached = b.leak.state ∙ rw a.leak.state
 
-  total : e.total ≡ arrived_by R.mb_in t
-  total = b.total ∙ rw a.leak.state
+  total : amount ≡ arrived_by R.mb_in t
+  total = b.arrived ∙ rw a.leak.state
 
-  transferred : (leak_of w m e.leak).flow.transferred ≡ R.flow.transferred
+  transferred : (leak_of w m e).flow.transferred ≡ R.flow.transferred
   unfolding settled_leak
   transferred = ap (λ (x : Leak). x.flow.transferred) reached
 
-  full : e.total ⊖ (leak_of w m e.leak).flow.transferred ≡ mb_fullness R t
+  full : amount ⊖ (leak_of w m e).flow.transferred ≡ mb_fullness R t
   unfolding mb_fullness
   full = rw (total, transferred)
 
-  closed_is : leak_of w m (closed_state e.leak e.total t) ≡ closed R t
+  closed_is : leak_of w m (closed_state e amount t) ≡ closed R t
   unfolding leak_of flow_of closed_state
-  closed_is = closed_by_lem (leak_of w m e.leak) R t _ reached full
+  closed_is = closed_by_lem (leak_of w m e) R t _ reached full
 
-  closed_lies : LeakLies w m (closed_state e.leak e.total t)
+  closed_lies : LeakLies w m (closed_state e amount t)
   unfolding closed_state
   closed_lies = record { runs = b.leak.lies.runs; marks = b.leak.lies.marks }
 
-  events : when (lt (m.mb_size ⊕ 1f) (e.total ⊖ (leak_of w m e.leak).flow.transferred)) (overflow (e.total ⊖ (leak_of w m e.leak).flow.transferred))
+  events : when (lt (m.mb_size ⊕ 1f) (amount ⊖ (leak_of w m e).flow.transferred)) (overflow (amount ⊖ (leak_of w m e).flow.transferred))
       ≡ when (lt (m.mb_size ⊕ 1f) (mb_fullness R t)) (overflow (mb_fullness R t))
   events = ap (λ (x : Float). when (lt (m.mb_size ⊕ 1f) x) (overflow x)) full
 

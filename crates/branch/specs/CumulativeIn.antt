@@ -1,10 +1,8 @@
 -- `CumulativeIn`: how many bytes have arrived by a time, of runs in the order in which they came.
-use Rattle.std.specs.Prelude.{ℕ, Bool, cond, ◌&&◌, List, [], ◌∷◌, ◌++◌, length, eqb, Float}
+use Rattle.std.specs.Prelude.{ℕ, Bool, cond, ◌&&◌, Option, Some, None, List, [], ◌∷◌, ◌++◌, length, eqb, Float}
 use Rattle.std.specs.Float.Ieee.{lt, le}
 use Rattle.ieee.specs.Binary64.{◌⊕◌, ◌⊖◌, ◌⊗◌, ◌⊘◌, -∞, 0f, 1f}
 use Rattle.branch.specs.declared.Run.{Run}
-use Rattle.branch.specs.declared.inflow.ArrivalTime.{ArrivalTime}
-use Rattle.branch.specs.declared.inflow.ArrivalTime.TheVariants.{At, NotQueued}
 
 -- the runs still tracked, and the bytes of those that are spent
 pub record Inflow : Type 0 where
@@ -54,15 +52,15 @@ unfoldable pub front_time : List Run → Float
 front_time [] = -∞
 front_time (r ∷ rs) = r.t0
 
-unfoldable pub time_from : List Run → Float → Float → ArrivalTime
-time_from [] acc target = NotQueued
+unfoldable pub time_from : List Run → Float → Float → Option Float
+time_from [] acc target = None
 time_from (r ∷ rs) acc target =
     cond (le target (acc ⊕ r.bytes))
-    (At (r.t0 ⊕ (r.t1 ⊖ r.t0) ⊗ ((target ⊖ acc) ⊘ r.bytes)))
+    (Some (r.t0 ⊕ (r.t1 ⊖ r.t0) ⊗ ((target ⊖ acc) ⊘ r.bytes)))
     (time_from rs (acc ⊕ r.bytes) target)
 
-unfoldable pub time_of_cumulative : Inflow → Float → ArrivalTime
-time_of_cumulative i target = cond (le target i.settled) (At (front_time i.runs)) (time_from i.runs i.settled target)
+unfoldable pub time_of_cumulative : Inflow → Float → Option Float
+time_of_cumulative i target = cond (le target i.settled) (Some (front_time i.runs)) (time_from i.runs i.settled target)
 
 -- ---- push
 unfoldable pub push_run : Inflow → Run → Inflow

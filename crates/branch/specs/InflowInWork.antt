@@ -1,21 +1,20 @@
 -- A `CumulativeIn` whose runs stand in a ring of the work, as the list of its runs; what its functions ensure.
-use Rattle.std.specs.Prelude.{◌+◌, ◌*◌, ◌≡◌, true, cond, List, Float}
+use Rattle.std.specs.Prelude.{◌+◌, ◌*◌, ◌≡◌, true, false, Option, Some, None, List, get_or, Float}
+use Rattle.std.specs.Float.{nan}
 use Rattle.branch.specs.declared.Run.{Run}
 use Rattle.branch.specs.declared.queue.Place.{Place}
-use Rattle.branch.specs.declared.queue.Three.{Three}
 use Rattle.branch.specs.declared.queue.Ring.{Ring}
 use Rattle.branch.specs.declared.inflow.CumulativeIn.{CumulativeIn}
 use Rattle.branch.specs.declared.inflow.Arrived.{Arrived}
-use Rattle.branch.specs.declared.inflow.PushedRun.{PushedRun}
-use Rattle.branch.specs.Queue.{Lies, SameOutside, three_at, entries}
+use Rattle.branch.specs.Queue.{Lies, SameOutside, floats_at, entries}
 use Rattle.branch.specs.CumulativeIn.{Inflow, settle, arrived_by, push_run, run_refused}
 
 -- an entry's floats are t0, t1 and the bytes
-abbrev pub run_of : Three → Run
-run_of e = record { t0 = e.a; t1 = e.b; bytes = e.c }
+abbrev pub run_of : List Float → Run
+run_of e = record { t0 = get_or e 0 nan; t1 = get_or e 1 nan; bytes = get_or e 2 nan }
 
 abbrev pub runs_of : List Float → Place → Ring → List Run
-runs_of w p q = entries 3 (λ u o. run_of (three_at u o)) w p q
+runs_of w p q = entries 3 (λ u o. run_of (floats_at 3 u o)) w p q
 
 abbrev pub inflow_of : List Float → Place → CumulativeIn → Inflow
 inflow_of w p c = record { runs = runs_of w p c.runs; settled = c.settled }
@@ -28,10 +27,14 @@ pub record ArrivedTo (w : List Float) (p : Place) (c : CumulativeIn) (t : Float)
   pub after : SettledTo w p c t r.inflow
   pub total : r.total ≡ arrived_by (inflow_of w p c) t
 
+-- a run that finds a place: v is the work after its push, and o the inflow
+pub record RunTaken (w : List Float) (p : Place) (c : CumulativeIn) (run : Run) (o : CumulativeIn) (v : List Float) : Type 0 where
+  pub lies : Lies 3 v p o.runs
+  pub room : run_refused p.depth (inflow_of w p c) run ≡ false
+  pub state : inflow_of v p o ≡ push_run (inflow_of w p c) run
+
 -- v is the work after the push of the run
-pub record RunPushedTo (w : List Float) (p : Place) (c : CumulativeIn) (run : Run) (r : PushedRun) (v : List Float) : Type 0 where
-  pub lies : Lies 3 v p r.inflow.runs
+pub record RunPushedTo (w : List Float) (p : Place) (c : CumulativeIn) (run : Run) (r : Option CumulativeIn) (v : List Float) : Type 0 where
   pub outside : SameOutside p.base (p.base + 3 * p.depth) w v
-  pub refused : r.full ≡ true → v ≡ w
-  pub full : r.full ≡ run_refused p.depth (inflow_of w p c) run
-  pub state : inflow_of v p r.inflow ≡ cond r.full (inflow_of w p c) (push_run (inflow_of w p c) run)
+  pub refused : r ≡ None → (v ≡ w) × (run_refused p.depth (inflow_of w p c) run ≡ true)
+  pub taken : (o : CumulativeIn) → r ≡ Some o → RunTaken w p c run o v

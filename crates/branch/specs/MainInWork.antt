@@ -1,16 +1,16 @@
 -- A `MainBranch` whose queues stand in rings of the work, as lists and floats; what its functions ensure.
-use Rattle.std.specs.Prelude.{ℕ, ◌+◌, ◌*◌, ◌≡◌, Bool, true, false, ◌&&◌, List, length, ltb, leb, Float}
+use Rattle.std.specs.Prelude.{ℕ, ◌+◌, ◌*◌, ◌≡◌, Bool, true, false, ◌&&◌, List, [], ◌∷◌, length, get_or, ltb, leb, Float}
+use Rattle.std.specs.Float.{nan}
 use Rattle.ieee.specs.Binary64.{0f, -∞}
 use Rattle.events.specs.Slots.{Slots, noted_all}
 use Rattle.branch.specs.declared.AccessUnit.{AccessUnit}
 use Rattle.branch.specs.declared.Delivered.{Delivered}
 use Rattle.branch.specs.declared.queue.Place.{Place}
 use Rattle.branch.specs.declared.queue.Ring.{Ring}
-use Rattle.branch.specs.declared.queue.Three.{Three}
 use Rattle.branch.specs.declared.main_branch.MainModel.{MainModel}
 use Rattle.branch.specs.declared.main_branch.MainBranch.{MainBranch}
 use Rattle.branch.specs.declared.main_branch.Stepped.{Stepped}
-use Rattle.branch.specs.Queue.{Lies, SameOutside, three_at, entries}
+use Rattle.branch.specs.Queue.{Lies, SameOutside, floats_at, entries}
 use Rattle.branch.specs.InflowInWork.{inflow_of}
 use Rattle.branch.specs.MainBranch.{Main, Drained, Fed, close_au, open_of, remove_unit, remove_events, Step, main_step}
 
@@ -22,11 +22,14 @@ abbrev pub units_place : MainModel → Place
 units_place p = record { base = p.base + 3 * p.depth; depth = p.depth }
 
 -- an entry's floats are the decode time, the bytes and the first input time
-abbrev pub unit_of : Three → AccessUnit
-unit_of e = record { decode_time = e.a; bytes = e.b; first_input_time = e.c }
+abbrev pub unit_of : List Float → AccessUnit
+unit_of e = record { decode_time = get_or e 0 nan; bytes = get_or e 1 nan; first_input_time = get_or e 2 nan }
+
+abbrev pub floats_of_unit : AccessUnit → List Float
+floats_of_unit u = u.decode_time ∷ (u.bytes ∷ (u.first_input_time ∷ []))
 
 abbrev pub units_of : List Float → MainModel → Ring → List AccessUnit
-units_of w p q = entries 3 (λ u o. unit_of (three_at u o)) w (units_place p) q
+units_of w p q = entries 3 (λ u o. unit_of (floats_at 3 u o)) w (units_place p) q
 
 unfoldable pub main_of : List Float → MainModel → MainBranch → Main
 main_of w p b =

@@ -1,10 +1,8 @@
 -- A queue in a ring of places of the work, over the width of an entry, and the list of its entries.
-use Rattle.std.specs.Prelude.{ℕ, zero, suc, ◌+◌, ◌-◌, ◌*◌, ◌≤◌, ◌<◌, ◌≡◌, true, false, cond, List, [], ◌∷◌, ◌⊎◌, length, get_or, set, ltb, eqb, Float}
+use Rattle.std.specs.Prelude.{ℕ, zero, suc, ◌+◌, ◌-◌, ◌*◌, ◌≤◌, ◌<◌, ◌≡◌, cond, List, [], ◌∷◌, ◌⊎◌, Option, Some, None, length, get_or, take, drop, ltb, eqb, Float}
 use Rattle.std.specs.Float.{nan}
 use Rattle.branch.specs.declared.queue.Place.{Place}
 use Rattle.branch.specs.declared.queue.Ring.{Ring}
-use Rattle.branch.specs.declared.queue.Three.{Three}
-use Rattle.branch.specs.declared.queue.Pushed.{Pushed}
 
 -- the ring, of entries n floats wide, lies in the work
 pub record Lies (n : ℕ) (w : List Float) (p : Place) (q : Ring) : Type 0 where
@@ -35,24 +33,21 @@ entries n at w p q = entries_from n at w p q 0 q.count
 unfoldable pub pop_def : ℕ → Ring → Ring
 pop_def depth q = record { head = cond (eqb (q.head + 1) depth) 0 (q.head + 1); count = q.count - 1 }
 
--- an entry of three floats
-unfoldable pub three_at : List Float → ℕ → Three
-three_at w p = record { a = get_or w p nan; b = get_or w (p + 1) nan; c = get_or w (p + 2) nan }
-
-unfoldable pub store_three : List Float → ℕ → Three → List Float
-store_three w p e = set (set (set w p e.a) (p + 1) e.b) (p + 2) e.c
+-- the n floats at p
+unfoldable pub floats_at : ℕ → List Float → ℕ → List Float
+floats_at n w p = take n (drop p w)
 
 -- the ring with one entry more
 abbrev pub longer : Ring → Ring
 longer q = record { head = q.head; count = q.count + 1 }
 
--- what a push gives: full where the ring has no place left
-unfoldable pub pushed_def : ℕ → Ring → Pushed
-pushed_def depth q = cond (eqb q.count depth) (record { full = true; ring = q }) (record { full = false; ring = longer q })
+-- what a push gives: none where the ring has no place left
+unfoldable pub pushed_def : ℕ → Ring → Option Ring
+pushed_def depth q = cond (eqb q.count depth) None (Some (longer q))
 
 -- a push of e to a ring of entries n floats wide: v is the work after it
-pub record PushedTo {A : Type 0} (n : ℕ) (at : List Float → ℕ → A) (w : List Float) (p : Place) (q : Ring) (e : A) (r : Pushed) (v : List Float) : Type 0 where
+pub record PushedTo (n : ℕ) (w : List Float) (p : Place) (q : Ring) (e : List Float) (r : Option Ring) (v : List Float) : Type 0 where
   pub result : r ≡ pushed_def p.depth q
-  pub refused : r.full ≡ true → v ≡ w
+  pub refused : r ≡ None → v ≡ w
   pub outside : SameOutside (place_of n p q q.count) (place_of n p q q.count + n) w v
-  pub entry : r.full ≡ false → at v (place_of n p q q.count) ≡ e
+  pub entry : (o : Ring) → r ≡ Some o → floats_at n v (place_of n p q q.count) ≡ e

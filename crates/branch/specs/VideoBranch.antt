@@ -1,6 +1,6 @@
 -- `VideoBranch`: the multiplexing buffer MBn leaks into the elementary stream buffer EBn at Rbxn, and PES headers are dropped on the way
 -- (H.222.0, 2.4.2.3, leak method). Access units are removed from EBn at their decode times.
-use Rattle.std.specs.Prelude.{ℕ, zero, suc, ◌+◌, ◌^◌, Bool, true, false, cond, List, [], ◌∷◌, ◌++◌, Float}
+use Rattle.std.specs.Prelude.{ℕ, zero, suc, ◌+◌, ◌^◌, Bool, true, false, cond, Option, Some, None, List, [], ◌∷◌, ◌++◌, Float}
 use Rattle.std.specs.Float.Ieee.{lt, le, eq}
 use Rattle.ieee.specs.Binary64.{◌⊕◌, ◌⊖◌, ◌⊗◌, ◌⊘◌, -∞, 0f, 1f, 2f, 1e-6f}
 use Rattle.ieee.specs.MaxMin.{max_of, min_of}
@@ -8,8 +8,6 @@ use Rattle.branch.specs.declared.Run.{Run}
 use Rattle.branch.specs.declared.AccessUnit.{AccessUnit}
 use Rattle.branch.specs.declared.HeaderMark.{HeaderMark}
 use Rattle.events.specs.Event.{Event, overflow, underflow, delay, mb_busy, when}
-use Rattle.branch.specs.declared.inflow.ArrivalTime.{ArrivalTime}
-use Rattle.branch.specs.declared.inflow.ArrivalTime.TheVariants.{At, NotQueued}
 use Rattle.branch.specs.CumulativeIn.{Inflow, settle, arrived_by, push_run, time_of_cumulative}
 
 -- Rbxn in bytes a second, MBSn and EBSn in bytes
@@ -140,9 +138,9 @@ unfoldable pub pace_take : Leak → Float → Float → Float → Float
 pace_take s t available room = min_of (arriving s t available) (max_of room 0f)
 
 -- EBn filled up on the way: the leak goes on from the time of that byte
-unfoldable pub filled : Leak → Float → Float → ArrivalTime → Turned
-filled s t bytes (At tt) = on (gone s t bytes (max_of tt s.proc_time))
-filled s t bytes NotQueued = break (gone s t bytes t)
+unfoldable pub filled : Leak → Float → Float → Option Float → Turned
+filled s t bytes (Some tt) = on (gone s t bytes (max_of tt s.proc_time))
+filled s t bytes None = break (gone s t bytes t)
 
 unfoldable pub paced : Leak → Float → Float → Float → Turned
 paced s t available room =

@@ -1,7 +1,8 @@
 -- The video branch with its queues as rings in the work: its state as lists and floats, that the rings lie in the work, and what the
 -- functions over it give.
-use Rattle.std.specs.Prelude.{ℕ, ◌+◌, ◌*◌, ◌≤◌, ◌<◌, ◌≡◌, Bool, true, false, cond, ◌&&◌, List, [], ◌∷◌, ◌++◌, get_or, length, ltb, leb, Float}
+use Rattle.std.specs.Prelude.{ℕ, ◌+◌, ◌*◌, ◌≤◌, ◌<◌, ◌≡◌, Bool, true, false, not, cond, ◌&&◌, Option, Some, None, List, [], ◌∷◌, ◌++◌, get_or, length, ltb, leb, Float}
 use Rattle.std.specs.Float.{nan}
+use Rattle.std.specs.Option.{is_some}
 use Rattle.std.specs.Float.Ieee.{lt, le, eq}
 use Rattle.ieee.specs.Binary64.{◌⊕◌, ◌⊖◌, 0f, 1f, 1e-6f, -∞}
 use Rattle.ieee.specs.MaxMin.{max_of}
@@ -21,22 +22,24 @@ use Rattle.branch.specs.declared.video_branch.Leak.{Leak as LeakState}
 use Rattle.branch.specs.declared.video_branch.Looked.{Looked}
 use Rattle.branch.specs.declared.video_branch.Turned.{Turned as TurnState}
 use Rattle.branch.specs.declared.video_branch.VideoBranch.{VideoBranch}
-use Rattle.branch.specs.declared.video_branch.Due.{Due}
-use Rattle.branch.specs.declared.video_branch.Removal.{Removal}
 use Rattle.branch.specs.declared.video_branch.Stepped.{Stepped}
-use Rattle.branch.specs.Queue.{Lies, SameOutside, entries, three_at, place_of, pop_def}
+use Rattle.branch.specs.Queue.{Lies, SameOutside, entries, floats_at, pop_def}
 use Rattle.branch.specs.InflowInWork.{inflow_of}
 use Rattle.branch.specs.CumulativeIn.{Inflow, settle, arrived_by, run_refused}
 use Rattle.branch.specs.MainBranch.{open_of, grown}
 use Rattle.branch.specs.MainInWork.{unit_of, no_unit}
 use Rattle.branch.specs.VideoStep.{VideoChain, VideoFed, close_au, VideoStep, video_step}
-use Rattle.branch.specs.VideoBranch.{VideoRates, Transfer, header_bytes, marks_left, transfer, Leak, Turned, looked, mb_fullness, leak_until, leak_events, Video, Advanced, remove_unit, remove_events, advance, pushed_leak}
+use Rattle.branch.specs.VideoBranch.{VideoRates, Transfer, header_bytes, marks_left, transfer, Leak, Turned, looked, mb_fullness, leak_until, leak_events, Video, Advanced, remove_unit, remove_events, pushed_leak}
+
+-- an entry's floats are the threshold and the bytes
+abbrev pub mark_of : List Float → HeaderMark
+mark_of e = record { threshold = get_or e 0 nan; bytes = get_or e 1 nan }
 
 unfoldable pub mark_at : List Float → ℕ → HeaderMark
-mark_at w p = record { threshold = get_or w p nan; bytes = get_or w (p + 1) nan }
+mark_at w p = mark_of (floats_at 2 w p)
 
 unfoldable pub unit_at : List Float → ℕ → AccessUnit
-unit_at w p = unit_of (three_at w p)
+unit_at w p = unit_of (floats_at 3 w p)
 
 abbrev pub rates_of : VideoLayout → VideoRates
 rates_of m = record { rbx = m.rbx; mb_size = m.mb_size; eb_size = m.eb_size }
@@ -93,23 +96,23 @@ pub record SettledAt (i : Inflow) (t total : Float) : Type 0 where
 
 -- a turn r is x; where it breaks off, the runs are settled at t
 pub record TurnIs (w : List Float) (m : VideoLayout) (t : Float) (r : TurnState) (x : Turned) : Type 0 where
-  pub more : r.more ≡ x.more
+  pub more : not (is_some r.total) ≡ x.more
   pub leak : LeakIs w m r.leak x.leak
-  pub seen : r.more ≡ false → SettledAt (leak_of w m r.leak).mb_in t r.total
+  pub seen : (total : Float) → r.total ≡ Some total → SettledAt (leak_of w m r.leak).mb_in t total
 
 -- turns up to t: the leak behind them
 pub record TurnsEnd (w : List Float) (m : VideoLayout) (t : Float) (r : TurnState) (s : Leak) : Type 0 where
   pub leak : LeakIs w m r.leak s
-  pub seen : r.more ≡ false → SettledAt (leak_of w m r.leak).mb_in t r.total
+  pub seen : (total : Float) → r.total ≡ Some total → SettledAt (leak_of w m r.leak).mb_in t total
 
 -- the leak with the runs up to t settled
 unfoldable pub settled_leak : Leak → Float → Leak
 settled_leak s t =
     record { mb_in = settle s.mb_in t; flow = s.flow; busy_since = s.busy_since; longest_busy = s.longest_busy; mb_peak = s.mb_peak; proc_time = s.proc_time }
 
-pub record ReachedBy (w : List Float) (m : VideoLayout) (t : Float) (l : LeakState) (r : TurnState) : Type 0 where
-  pub leak : LeakIs w m r.leak (settled_leak (leak_of w m l) t)
-  pub total : r.total ≡ arrived_by (leak_of w m l).mb_in t
+pub record ReachedBy (w : List Float) (m : VideoLayout) (t : Float) (l r : LeakState) (total : Float) : Type 0 where
+  pub leak : LeakIs w m r (settled_leak (leak_of w m l) t)
+  pub arrived : total ≡ arrived_by (leak_of w m l).mb_in t
 
 -- the closing of a leak whose runs are settled, where total has arrived by t
 unfoldable pub closed_state : LeakState → Float → Float → LeakState
@@ -150,16 +153,19 @@ pub record VideoLies (w : List Float) (m : VideoLayout) (b : VideoBranch) : Type
   pub leak : LeakLies w m b.leak
   pub pending : Lies 3 w m.units b.pending
 
--- the first unit is due
-unfoldable pub due_now : List AccessUnit → Float → Bool
-due_now [] frontier = false
-due_now (u ∷ us) frontier = le u.decode_time frontier
+-- the first unit, where it is due
+unfoldable pub due_now : List AccessUnit → Float → Option AccessUnit
+due_now [] frontier = None
+due_now (u ∷ us) frontier = cond (le u.decode_time frontier) (Some u) None
 
-pub record DueOf (w : List Float) (p : Place) (q : Ring) (frontier : Float) (r : Due) : Type 0 where
-  pub test : r.due ≡ due_now (entries 3 unit_at w p q) frontier
-  pub until : r.to ≡ cond r.due r.unit.decode_time frontier
-  pub some : r.due ≡ true → 0 < q.count
-  pub first : r.due ≡ true → r.unit ≡ unit_at w (place_of 3 p q 0)
+pub record DueOf (w : List Float) (p : Place) (q : Ring) (frontier : Float) (r : Option AccessUnit) : Type 0 where
+  pub test : r ≡ due_now (entries 3 unit_at w p q) frontier
+  pub some : (u : AccessUnit) → r ≡ Some u → 0 < q.count
+
+-- how far the leak goes on before that
+abbrev pub until : Option AccessUnit → Float → Float
+until (Some u) frontier = u.decode_time
+until None frontier = frontier
 
 unfoldable pub removal_events : Float → Float → AccessUnit → List Event
 removal_events eb_in required u =
@@ -174,21 +180,6 @@ pub record RemovedBy (m : VideoLayout) (b : VideoBranch) (u : AccessUnit) (k : �
   pub units : r.access_units ≡ b.access_units + 1
   pub state : (w : List Float) → video_of w m r ≡ remove_unit (video_of w m b) u (entries 3 unit_at w m.units (pop_def m.units.depth b.pending))
   pub events : (w : List Float) → after ≡ noted_all k (remove_events (video_of w m b) u) before
-
--- where a branch comes to from v, if it goes on, and its slots then
-unfoldable pub came_to : Bool → VideoRates → Float → Video → Video
-came_to more r frontier v = cond more (advance r frontier v).branch v
-
-unfoldable pub noted_to : Bool → ℕ → VideoRates → Float → Video → Slots → Slots
-noted_to more k r frontier v s = cond more (noted_all k (advance r frontier v).events s) s
-
-pub record RemovalOf (w : List Float) (m : VideoLayout) (frontier : Float) (k : ℕ) (b : VideoBranch) (before : Slots) (r : Removal) (after : Slots) : Type 0 where
-  pub lies : VideoLies w m r.branch
-  pub open_au : r.branch.open_au ≡ b.open_au
-  pub bound : r.branch.access_units + r.branch.pending.count ≡ b.access_units + b.pending.count
-  pub count : r.more ≡ true → r.branch.pending.count < b.pending.count
-  pub state : came_to r.more (rates_of m) frontier (video_of w m r.branch) ≡ (advance (rates_of m) frontier (video_of w m b)).branch
-  pub slots : noted_to r.more k (rates_of m) frontier (video_of w m r.branch) after ≡ noted_all k (advance (rates_of m) frontier (video_of w m b)).events before
 
 -- a branch that comes to x, with the events of x in the slots; its open unit stays
 pub record AdvancedTo (w : List Float) (m : VideoLayout) (k : ℕ) (u : AccessUnit) (before : Slots) (x : Advanced) (r : VideoBranch) (after : Slots) : Type 0 where

@@ -1,11 +1,11 @@
 // `CumulativeIn`: how many bytes have arrived by a time, of runs in a ring of the work.
 ghost use Rattle.std.specs.Prelude.{◌≡◌, ◌<◌};
-ghost use Rattle.branch.specs.Queue.{Lies, place_of, three_at};
-ghost use Rattle.branch.specs.CumulativeIn.{clamp, fraction, total_of, final_total, time_of_cumulative};
+ghost use Rattle.branch.specs.Queue.{Lies, place_of, floats_at};
+ghost use Rattle.branch.specs.CumulativeIn.{fraction, total_of, final_total, time_of_cumulative};
 ghost use Rattle.branch.specs.InflowInWork.{run_of, inflow_of, runs_of, SettledTo, ArrivedTo, RunPushedTo};
 
-use crate::queue::{Place, Ring, Three, entry, pop, push};
-use crate::{Run, neg_infinity};
+use crate::Run;
+use crate::queue::{Place, Ring, entry, pop, push};
 
 // The runs still tracked, and the bytes of those that are spent.
 #[derive(Clone, Copy)]
@@ -20,31 +20,6 @@ pub struct Arrived {
     pub total: f64,
 }
 
-#[derive(Clone, Copy)]
-pub struct PushedRun {
-    pub full: bool,
-    pub inflow: CumulativeIn,
-}
-
-#[derive(Clone, Copy)]
-pub enum ArrivalTime {
-    At(f64),
-    NotQueued,
-}
-
-// Rust's clamp(0.0, 1.0).
-fn clamp_unit(x: f64) -> f64
-    ensures { result ≡ clamp x }
-{
-    if x < 0.0 {
-        return 0.0;
-    }
-    if x > 1.0 {
-        return 1.0;
-    }
-    x
-}
-
 // How much of a run has arrived by t, where the run has begun.
 fn fraction_by(run: Run, t: f64) -> f64
     ensures { result ≡ fraction run t }
@@ -53,54 +28,30 @@ fn fraction_by(run: Run, t: f64) -> f64
     if span <= 0.0 {
         return 1.0;
     }
-    clamp_unit((t - run.t0) / span)
+    ((t - run.t0) / span).clamp(0.0, 1.0)
 }
 
 // The run i from the front.
 fn run_at(q: Ring, w: Place, work: &[f64], i: usize) -> Run
     requires lies { Lies 3 work.now w q }
     requires i_lt_count { i < q.count }
-    ensures { result ≡ run_of (three_at work.now (place_of 3 w q i)) }
+    ensures { result ≡ run_of (floats_at 3 work.now (place_of 3 w q i)) }
 {
-    let e = entry(q, w, work, i);
-    Run {
-        t0: e.a,
-        t1: e.b,
-        bytes: e.c,
-    }
+    let [t0, t1, bytes] = entry::<3>(q, w, work, i);
+    Run { t0, t1, bytes }
 }
 
 impl CumulativeIn {
-    // A run without bytes is no run.
-    pub(crate) fn push_run(self, w: Place, work: &mut [f64], run: Run) -> PushedRun
+    // A run without bytes is no run; none where the queue is full.
+    pub(crate) fn push_run(self, w: Place, work: &mut [f64], run: Run) -> Option<CumulativeIn>
         requires { Lies 3 work.old w self.runs }
         ensures { RunPushedTo work.old w self run result work.new }
     {
-        if run.bytes > 0.0 {
-            let q = self.runs;
-            let p = push(
-                q,
-                w,
-                work,
-                Three {
-                    a: run.t0,
-                    b: run.t1,
-                    c: run.bytes,
-                },
-            );
-            let runs = p.ring;
-            return PushedRun {
-                full: p.full,
-                inflow: CumulativeIn {
-                    runs,
-                    settled: self.settled,
-                },
-            };
+        if !(run.bytes > 0.0) {
+            return Some(self);
         }
-        PushedRun {
-            full: false,
-            inflow: self,
-        }
+        let runs = push(self.runs, w, work, [run.t0, run.t1, run.bytes])?;
+        Some(CumulativeIn { runs, ..self })
     }
 
     // The runs that have ended by t go from the ring to the sum.
@@ -130,16 +81,13 @@ impl CumulativeIn {
         requires { Lies 3 work.now w self.runs }
         ensures { result ≡ total_of (runs_of work.now w self.runs) self.settled t }
     {
-        let q = self.runs;
         let mut sum = self.settled;
-        let mut i = 0;
-        while i < q.count {
-            let run = run_at(q, w, work, i);
+        for i in 0..self.runs.count {
+            let run = run_at(self.runs, w, work, i);
             if run.t0 >= t {
                 return sum;
             }
             sum = sum + run.bytes * fraction_by(run, t);
-            i += 1;
         }
         sum
     }
@@ -158,40 +106,32 @@ impl CumulativeIn {
         requires { Lies 3 work.now w self.runs }
         ensures { result ≡ final_total (inflow_of work.now w self) }
     {
-        let q = self.runs;
         let mut sum = 0.0;
-        let mut i = 0;
-        while i < q.count {
-            let run = run_at(q, w, work, i);
-            sum = sum + run.bytes;
-            i += 1;
+        for i in 0..self.runs.count {
+            sum = sum + run_at(self.runs, w, work, i).bytes;
         }
         self.settled + sum
     }
 
-    // When the byte `target` of the sum came, as far as the ring knows.
-    pub(crate) fn time_of_cumulative(self, w: Place, work: &[f64], target: f64) -> ArrivalTime
+    // When the byte `target` of the sum came, as far as the ring knows; none where it has not come.
+    pub(crate) fn time_of_cumulative(self, w: Place, work: &[f64], target: f64) -> Option<f64>
         requires { Lies 3 work.now w self.runs }
         ensures { result ≡ time_of_cumulative (inflow_of work.now w self) target }
     {
-        let q = self.runs;
-        let mut sum = self.settled;
-        if target <= sum {
-            if q.count == 0 {
-                return ArrivalTime::At(neg_infinity());
+        if target <= self.settled {
+            if self.runs.count == 0 {
+                return Some(f64::NEG_INFINITY);
             }
-            let run = run_at(q, w, work, 0);
-            return ArrivalTime::At(run.t0);
+            return Some(run_at(self.runs, w, work, 0).t0);
         }
-        let mut i = 0;
-        while i < q.count {
-            let run = run_at(q, w, work, i);
+        let mut sum = self.settled;
+        for i in 0..self.runs.count {
+            let run = run_at(self.runs, w, work, i);
             if target <= sum + run.bytes {
-                return ArrivalTime::At(run.t0 + (run.t1 - run.t0) * ((target - sum) / run.bytes));
+                return Some(run.t0 + (run.t1 - run.t0) * ((target - sum) / run.bytes));
             }
             sum = sum + run.bytes;
-            i += 1;
         }
-        ArrivalTime::NotQueued
+        None
     }
 }

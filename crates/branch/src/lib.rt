@@ -3,13 +3,9 @@
 
 pub mod inflow;
 pub mod main_branch;
-mod marks;
 pub mod queue;
 pub mod sys_branch;
 pub mod video_branch;
-
-ghost use Rattle.std.specs.Prelude.{◌≡◌};
-ghost use Rattle.ieee.specs.Binary64.{ -∞, +∞};
 
 // A run of bytes delivered over t0 to t1.
 #[derive(Clone, Copy)]
@@ -43,17 +39,4 @@ pub struct Delivered {
 pub struct HeaderMark {
     pub threshold: f64,
     pub bytes: f64,
-}
-
-// Rust's `f64::NEG_INFINITY` and `f64::INFINITY`, which a constant cannot hold here.
-fn neg_infinity() -> f64
-    ensures { result ≡ -∞ }
-{
-    -1.0 / 0.0
-}
-
-fn infinity() -> f64
-    ensures { result ≡ +∞ }
-{
-    1.0 / 0.0
 }

@@ -1,15 +1,15 @@
 // `MainBranch`: runs in the main buffer Bn, and access units that are removed whole at their decode times (H.222.0, 2.4.2.3).
-ghost use Rattle.std.specs.Prelude.{◌≡◌, cond, true, ◌+◌, ◌*◌, ◌≤◌, ◌<◌};
+ghost use Rattle.std.specs.Prelude.{◌≡◌, cond, ◌+◌, ◌*◌, ◌≤◌, ◌<◌};
 ghost use Rattle.std.specs.Float.Ieee.{ne};
 ghost use Rattle.ieee.specs.Binary64.{ -∞, +∞};
 ghost use Rattle.events.specs.Slots.{slots, noted_all};
-ghost use Rattle.branch.specs.Queue.{Lies, place_of, three_at};
+ghost use Rattle.branch.specs.Queue.{Lies, place_of, floats_at};
 ghost use Rattle.branch.specs.MainBranch.{removal_events, drain as drainDef, look_at_end, fed, close_au, open_unit, stamp_of, add_run, deliver as deliverDef};
-ghost use Rattle.branch.specs.MainInWork.{new_branch, no_unit, runs_place, units_place, unit_of, main_of, BranchLies, ready as readyDef, RemovedTo, DrainedTo, FedTo, StepOf, CloseOf};
+ghost use Rattle.branch.specs.MainInWork.{new_branch, floats_of_unit, no_unit, runs_place, units_place, unit_of, main_of, BranchLies, ready as readyDef, RemovedTo, DrainedTo, FedTo, StepOf, CloseOf};
 
 use crate::inflow::CumulativeIn;
-use crate::queue::{Place, Ring, Three, entry, pop, push};
-use crate::{AccessUnit, Delivered, Run, infinity, neg_infinity};
+use crate::queue::{Place, Ring, entry, pop, push};
+use crate::{AccessUnit, Delivered, Run};
 
 // What does not change: BSn in bytes, and where the chain's part of the work begins, with the depth of its two rings.
 #[derive(Clone, Copy)]
@@ -62,7 +62,7 @@ pub(crate) fn no_unit() -> AccessUnit
     ensures { result ≡ no_unit }
 {
     AccessUnit {
-        decode_time: neg_infinity(),
+        decode_time: f64::NEG_INFINITY,
         bytes: 0.0,
         first_input_time: 0.0,
     }
@@ -71,21 +71,28 @@ pub(crate) fn no_unit() -> AccessUnit
 pub(crate) fn is_open(u: AccessUnit) -> bool
     ensures { result ≡ ne u.decode_time -∞ }
 {
-    u.decode_time != neg_infinity()
+    u.decode_time != f64::NEG_INFINITY
 }
 
 // The pending unit i from the front.
 pub(crate) fn unit_at(q: Ring, w: Place, work: &[f64], i: usize) -> AccessUnit
     requires lies { Lies 3 work.now w q }
     requires i_lt_count { i < q.count }
-    ensures { result ≡ unit_of (three_at work.now (place_of 3 w q i)) }
+    ensures { result ≡ unit_of (floats_at 3 work.now (place_of 3 w q i)) }
 {
-    let e = entry(q, w, work, i);
+    let [decode_time, bytes, first_input_time] = entry::<3>(q, w, work, i);
     AccessUnit {
-        decode_time: e.a,
-        bytes: e.b,
-        first_input_time: e.c,
+        decode_time,
+        bytes,
+        first_input_time,
     }
+}
+
+// The unit as an entry of the ring of pending units.
+pub(crate) fn entry_of(u: AccessUnit) -> [f64; 3]
+    ensures { result ≡ floats_of_unit u }
+{
+    [u.decode_time, u.bytes, u.first_input_time]
 }
 
 // The events of a removal.
@@ -144,8 +151,7 @@ fn remove(
     requires k_bound { (k < 64) × (b.access_units < 18446744073709551615) }
     ensures { RemovedTo work.now p b u k (slots firsts.old figures.old) result (slots firsts.new figures.new) }
 {
-    let inflow = b.inflow;
-    let got = inflow.arrived_by(runs_place(p), work, u.decode_time);
+    let got = b.inflow.arrived_by(runs_place(p), work, u.decode_time);
     let fullness = got.total - b.removed;
     let required = b.required + u.bytes;
     note_removal(
@@ -158,15 +164,15 @@ fn remove(
         figures,
         k,
     );
-    let after = got.inflow;
-    let mut m = b;
-    m.inflow = after;
-    m.required = required;
-    m.removed = ieee::min(required, got.total);
-    m.peak = ieee::max(b.peak, fullness);
-    m.max_delay_seconds = ieee::max(b.max_delay_seconds, u.decode_time - u.first_input_time);
-    m.access_units = b.access_units + 1;
-    m
+    MainBranch {
+        inflow: got.inflow,
+        required,
+        removed: ieee::min(required, got.total),
+        peak: ieee::max(b.peak, fullness),
+        max_delay_seconds: ieee::max(b.max_delay_seconds, u.decode_time - u.first_input_time),
+        access_units: b.access_units + 1,
+        ..b
+    }
 }
 
 // Every pending unit with a decode time up to the frontier is removed, in queue order.
@@ -186,13 +192,11 @@ fn drain(
     let w = units_place(p);
     let mut m = b;
     while 0 < m.pending.count {
-        let q = m.pending;
-        let u = unit_at(q, w, work, 0);
+        let u = unit_at(m.pending, w, work, 0);
         if u.decode_time > frontier {
             break;
         }
-        let next = pop(q, w);
-        m.pending = next;
+        m.pending = pop(m.pending, w);
         m = remove(m, p, work, u, firsts, figures, k);
     }
     m
@@ -211,8 +215,7 @@ fn look_at_end(
     requires k_bound { k < 64 }
     ensures { DrainedTo work.now p k (slots firsts.old figures.old) (look_at_end p.buffer_size (main_of work.now p b)) result (slots firsts.new figures.new) }
 {
-    let inflow = b.inflow;
-    let fullness = inflow.final_total(runs_place(p), work) - b.removed;
+    let fullness = b.inflow.final_total(runs_place(p), work) - b.removed;
     events::note_if(
         firsts,
         figures,
@@ -221,9 +224,10 @@ fn look_at_end(
         fullness,
         0.0,
     );
-    let mut m = b;
-    m.peak = ieee::max(b.peak, fullness);
-    m
+    MainBranch {
+        peak: ieee::max(b.peak, fullness),
+        ..b
+    }
 }
 
 // Where wanted, the open unit becomes a pending one.
@@ -231,44 +235,25 @@ fn close_au(b: MainBranch, p: MainModel, work: &mut [f64], wanted: bool) -> Step
     requires { BranchLies work.old p b }
     ensures { FedTo work.old p b (cond wanted (close_au p.depth (main_of work.old p b)) (fed (main_of work.old p b))) result work.new }
 {
-    let u = b.open_au;
-    if !wanted {
+    if !wanted || !is_open(b.open_au) {
         return Stepped {
             full: false,
             branch: b,
         };
     }
-    if !is_open(u) {
-        return Stepped {
-            full: false,
-            branch: b,
-        };
-    }
-    let q = b.pending;
-    let pushed = push(
-        q,
-        units_place(p),
-        work,
-        Three {
-            a: u.decode_time,
-            b: u.bytes,
-            c: u.first_input_time,
-        },
-    );
-    if pushed.full {
+    let Some(pending) = push(b.pending, units_place(p), work, entry_of(b.open_au)) else {
         return Stepped {
             full: true,
             branch: b,
         };
-    }
-    let next = pushed.ring;
-    let none = no_unit();
-    let mut m = b;
-    m.pending = next;
-    m.open_au = none;
+    };
     Stepped {
         full: false,
-        branch: m,
+        branch: MainBranch {
+            pending,
+            open_au: no_unit(),
+            ..b
+        },
     }
 }
 
@@ -292,11 +277,12 @@ fn open_unit(b: MainBranch, p: MainModel, work: &mut [f64], d: Delivered) -> Ste
     if s.full {
         return s;
     }
-    let mut m = s.branch;
-    m.open_au = u;
     Stepped {
         full: false,
-        branch: m,
+        branch: MainBranch {
+            open_au: u,
+            ..s.branch
+        },
     }
 }
 
@@ -311,23 +297,22 @@ fn add_run(b: MainBranch, p: MainModel, work: &mut [f64], run: Run) -> Stepped
             branch: b,
         };
     }
-    let inflow = b.inflow;
-    let pushed = inflow.push_run(runs_place(p), work, run);
-    if pushed.full {
+    let Some(inflow) = b.inflow.push_run(runs_place(p), work, run) else {
         return Stepped {
             full: true,
             branch: b,
         };
-    }
-    let next = pushed.inflow;
-    let mut u = b.open_au;
-    u.bytes = u.bytes + run.bytes;
-    let mut m = b;
-    m.inflow = next;
-    m.open_au = u;
+    };
     Stepped {
         full: false,
-        branch: m,
+        branch: MainBranch {
+            inflow,
+            open_au: AccessUnit {
+                bytes: b.open_au.bytes + run.bytes,
+                ..b.open_au
+            },
+            ..b
+        },
     }
 }
 
@@ -340,21 +325,15 @@ fn deliver(b: MainBranch, p: MainModel, work: &mut [f64], d: Delivered) -> Stepp
     if s.full {
         return s;
     }
-    let m = s.branch;
-    let head = d.head;
-    let x = add_run(m, p, work, head);
+    let x = add_run(s.branch, p, work, d.head);
     if x.full {
         return x;
     }
-    let n = x.branch;
-    let rest = d.rest;
-    let y = add_run(n, p, work, rest);
+    let y = add_run(x.branch, p, work, d.rest);
     if y.full {
         return y;
     }
-    let o = y.branch;
-    let body = d.body;
-    add_run(o, p, work, body)
+    add_run(y.branch, p, work, d.body)
 }
 
 // How far units are removed: at the end, all.
@@ -362,7 +341,7 @@ fn frontier(end: bool, t: f64) -> f64
     ensures { result ≡ cond end +∞ t }
 {
     if end {
-        return infinity();
+        return f64::INFINITY;
     }
     t
 }
@@ -447,8 +426,7 @@ impl MainBranch {
         if s.full {
             return s;
         }
-        let b = s.branch;
-        let m = drain(b, p, work, frontier(end, t), firsts, figures, k);
+        let m = drain(s.branch, p, work, frontier(end, t), firsts, figures, k);
         if end {
             return Stepped {
                 full: false,

@@ -1,6 +1,6 @@
-// First-in first-out queues in lent work: rings of depth places, of a width of floats each. Only a push writes the work.
+// First-in first-out queues in lent work: rings of depth places, of a width of W floats each. Only a push writes the work.
 ghost use Rattle.std.specs.Prelude.{◌≡◌, ◌+◌, ◌*◌, ◌≤◌, ◌<◌};
-ghost use Rattle.branch.specs.Queue.{Lies, slot_of, place_of, three_at, pop_def, PushedTo};
+ghost use Rattle.branch.specs.Queue.{Lies, slot_of, place_of, floats_at, pop_def, PushedTo};
 
 // Where a ring stands in the work: the same for a whole replay.
 #[derive(Clone, Copy)]
@@ -16,20 +16,6 @@ pub struct Ring {
     pub count: usize,
 }
 
-// An entry of three floats.
-#[derive(Clone, Copy)]
-pub struct Three {
-    pub a: f64,
-    pub b: f64,
-    pub c: f64,
-}
-
-#[derive(Clone, Copy)]
-pub struct Pushed {
-    pub full: bool,
-    pub ring: Ring,
-}
-
 // Which place has the entry i from the front; i is count for the next entry.
 fn slot(q: Ring, depth: usize, i: usize) -> usize
     requires { (q.head < depth) × ((i < depth) × (depth ≤ 9223372036854775807)) }
@@ -43,7 +29,7 @@ fn slot(q: Ring, depth: usize, i: usize) -> usize
 }
 
 // Where that place begins in the work.
-pub(crate) fn offset(q: Ring, w: Place, width: usize, i: usize) -> usize
+fn offset(q: Ring, w: Place, width: usize, i: usize) -> usize
     requires head_lt_depth { (q.head < w.depth) × ((i < w.depth) × (0 < width)) }
     requires depth_bound { w.base + width * w.depth ≤ 9223372036854775807 }
     ensures { (result ≡ place_of width w q i) × (result + width ≤ w.base + width * w.depth) }
@@ -52,41 +38,32 @@ pub(crate) fn offset(q: Ring, w: Place, width: usize, i: usize) -> usize
     w.base + width * at
 }
 
-pub(crate) fn entry(q: Ring, w: Place, work: &[f64], i: usize) -> Three
-    requires lies { Lies 3 work.now w q }
-    requires i_lt_count { i < q.count }
-    ensures { result ≡ three_at work.now (place_of 3 w q i) }
+pub(crate) fn entry<const W: usize>(q: Ring, w: Place, work: &[f64], i: usize) -> [f64; W]
+    requires lies { Lies W work.now w q }
+    requires i_lt_count { (i < q.count) × (0 < W) }
+    ensures { result ≡ floats_at W work.now (place_of W w q i) }
 {
-    let p = offset(q, w, 3, i);
-    Three {
-        a: work[p],
-        b: work[p + 1],
-        c: work[p + 2],
-    }
+    let p = offset(q, w, W, i);
+    let mut e = [0.0; W];
+    e.copy_from_slice(&work[p..p + W]);
+    e
 }
 
-// The entry goes behind the last, if there is room.
-pub(crate) fn push(q: Ring, w: Place, work: &mut [f64], e: Three) -> Pushed
-    requires { Lies 3 work.old w q }
-    ensures { PushedTo 3 three_at work.old w q e result work.new }
+// The entry goes behind the last; none where no place is left.
+pub(crate) fn push<const W: usize>(q: Ring, w: Place, work: &mut [f64], e: [f64; W]) -> Option<Ring>
+    requires lies { Lies W work.old w q }
+    requires nonempty { 0 < W }
+    ensures { PushedTo W work.old w q e.entry result work.new }
 {
-    let count = q.count;
-    if count == w.depth {
-        return Pushed {
-            full: true,
-            ring: q,
-        };
+    if q.count == w.depth {
+        return None;
     }
-    let p = offset(q, w, 3, count);
-    work[p] = e.a;
-    work[p + 1] = e.b;
-    work[p + 2] = e.c;
-    let mut next = q;
-    next.count = count + 1;
-    Pushed {
-        full: false,
-        ring: next,
-    }
+    let p = offset(q, w, W, q.count);
+    work[p..p + W].copy_from_slice(&e);
+    Some(Ring {
+        count: q.count + 1,
+        ..q
+    })
 }
 
 // The first entry goes.
@@ -94,13 +71,9 @@ pub(crate) fn pop(q: Ring, w: Place) -> Ring
     requires { (q.head < w.depth) × (0 < q.count) }
     ensures { result ≡ pop_def w.depth q }
 {
-    let mut next = q;
-    next.count = q.count - 1;
     let at = q.head + 1;
-    if at == w.depth {
-        next.head = 0;
-        return next;
+    Ring {
+        head: if at == w.depth { 0 } else { at },
+        count: q.count - 1,
     }
-    next.head = at;
-    next
 }

@@ -3,7 +3,7 @@ ghost use Rattle.std.specs.Prelude.{◌≡◌};
 ghost use Rattle.events.specs.Slots.{slots, noted_all};
 ghost use Rattle.branch.specs.SysBranch.{new_sys, rsys_of, since as sinceDef, idled as idledDef, filled as filledDef, push_sys, sys_events};
 
-use crate::{Run, neg_infinity};
+use crate::Run;
 
 // The time of the last byte is -infinity before the first run.
 #[derive(Clone, Copy)]
@@ -23,7 +23,7 @@ pub fn rsys(rate: f64) -> f64
 fn since(s: SysBranch, t0: f64) -> f64
     ensures { result ≡ sinceDef s t0 }
 {
-    if s.last_time == neg_infinity() {
+    if s.last_time == f64::NEG_INFINITY {
         return t0;
     }
     s.last_time
@@ -53,7 +53,7 @@ impl SysBranch {
     {
         SysBranch {
             fullness: 0.0,
-            last_time: neg_infinity(),
+            last_time: f64::NEG_INFINITY,
             peak: 0.0,
         }
     }

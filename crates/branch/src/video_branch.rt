@@ -1,21 +1,20 @@
 // `VideoBranch`: MBn leaks into EBn at Rbxn, PES headers are dropped on the way, and access units are removed from EBn at their decode
 // times (H.222.0, 2.4.2.3, leak method). The queues are three rings in the lent work; the events go into lent slots.
-ghost use Rattle.std.specs.Prelude.{◌≡◌, true, false, cond, ◌+◌, ◌*◌, ◌≤◌, ◌<◌};
+ghost use Rattle.std.specs.Prelude.{◌≡◌, true, false, cond, Float, Some, ◌+◌, ◌*◌, ◌≤◌, ◌<◌};
 ghost use Rattle.std.specs.Float.{inf, binary64};
 ghost use Rattle.std.specs.Float.Ieee.{eq, sub};
 ghost use Rattle.ieee.specs.MaxMin.{max_of};
 ghost use Rattle.events.specs.Slots.{slots, noted_all};
 ghost use Rattle.branch.specs.Queue.{Lies};
 ghost use Rattle.branch.specs.VideoBranch.{overlap as overlapOf, since_seen, longest_seen, eb_room, mb_fullness, looked, stalled as stalledOf, paced as pacedOf, backlogged as backloggedOf, break, step as step_of, ran, advance as advanceOf};
-ghost use Rattle.branch.specs.VideoInWork.{rates_of, flow_of, leak_of, HeadersBy, Transferred, LeakLies, LeakIs, LooksBy, TurnIs, SettledAt, TurnsEnd, ReachedBy, ClosedBy, LeaksTo, video_of, VideoLies, DueOf, removal_events, RemovedBy, RemovalOf, AdvancedTo, chain_of, Apart, VideoFedTo, QueuedTo, MarkedTo, layout_of, ready as readyOf, SteppedTo, StepOf, CloseOf, BusyNoted, new_branch};
+ghost use Rattle.branch.specs.VideoInWork.{rates_of, flow_of, leak_of, HeadersBy, Transferred, LeakLies, LeakIs, LooksBy, TurnIs, SettledAt, TurnsEnd, ReachedBy, ClosedBy, LeaksTo, video_of, VideoLies, DueOf, removal_events, RemovedBy, AdvancedTo, chain_of, Apart, VideoFedTo, QueuedTo, MarkedTo, layout_of, ready as readyOf, SteppedTo, StepOf, CloseOf, BusyNoted, new_branch};
 ghost use Rattle.ieee.specs.Binary64.{◌⊕◌, ◌⊘◌, 0f, 2f};
 ghost use Rattle.branch.specs.VideoStep.{fed, close_au, add_run, deliver as deliverOf, video_step};
 
-use crate::inflow::{ArrivalTime, CumulativeIn};
-use crate::main_branch::{is_open, no_unit, unit_at};
-use crate::marks::{first_mark, push_mark};
-use crate::queue::{Place, Ring, Three, pop, push};
-use crate::{AccessUnit, Delivered, HeaderMark, Run, neg_infinity};
+use crate::inflow::CumulativeIn;
+use crate::main_branch::{entry_of, is_open, no_unit, unit_at};
+use crate::queue::{Place, Ring, entry, pop, push};
+use crate::{AccessUnit, Delivered, HeaderMark, Run};
 use events::{DELAY, MB_BUSY, OVERFLOW, UNDERFLOW, note_if};
 use ieee::{max, min};
 
@@ -74,11 +73,10 @@ pub struct Looked {
     available: f64,
 }
 
-// What a turn gives: whether the loop goes on; where it does not, total is what has arrived by t.
+// What a turn gives: total is what has arrived by t where the loop ends, and none where it goes on.
 #[derive(Clone, Copy)]
 pub struct Turned {
-    more: bool,
-    total: f64,
+    total: Option<f64>,
     leak: Leak,
 }
 
@@ -100,7 +98,8 @@ fn header_bytes(first: Ring, w: Place, work: &[f64], start: f64, end: f64) -> He
     let mut q = first;
     let mut sum = 0.0;
     while 0 < q.count {
-        let m = first_mark(q, w, work);
+        let [threshold, bytes] = entry::<2>(q, w, work, 0);
+        let m = HeaderMark { threshold, bytes };
         if m.threshold - m.bytes >= end {
             break;
         }
@@ -125,18 +124,15 @@ fn transfer(f: Flow, w: Place, work: &[f64], bytes: f64) -> Flow
     if bytes <= 0.0 {
         return f;
     }
-    let start = f.transferred;
-    let end = start + bytes;
-    let marks = f.marks;
-    let h = header_bytes(marks, w, work, start, end);
+    let end = f.transferred + bytes;
+    let h = header_bytes(f.marks, w, work, f.transferred, end);
     let eb_in = f.eb_in + (bytes - h.bytes);
-    let left = h.marks;
     Flow {
-        marks: left,
+        marks: h.marks,
         transferred: end,
         eb_in,
-        eb_removed: f.eb_removed,
         eb_peak: max(f.eb_peak, eb_in - f.eb_removed),
+        ..f
     }
 }
 
@@ -145,12 +141,12 @@ fn since_seen(since: f64, over: bool, now: f64) -> f64
     ensures { result ≡ since_seen since over now }
 {
     if over {
-        if since == neg_infinity() {
+        if since == f64::NEG_INFINITY {
             return now;
         }
         return since;
     }
-    neg_infinity()
+    f64::NEG_INFINITY
 }
 
 // The longest busy stretch, once a fullness over a byte or not is seen now.
@@ -160,7 +156,7 @@ fn longest_seen(longest: f64, since: f64, over: bool, now: f64) -> f64
     if over {
         return longest;
     }
-    if since == neg_infinity() {
+    if since == f64::NEG_INFINITY {
         return longest;
     }
     max(longest, now - since)
@@ -170,11 +166,11 @@ fn longest_seen(longest: f64, since: f64, over: bool, now: f64) -> f64
 fn since_stalled(since: f64, over: bool, now: f64) -> f64
     ensures { result ≡ cond (eq since (inf true)) (cond over now (inf true)) since }
 {
-    if since == neg_infinity() {
+    if since == f64::NEG_INFINITY {
         if over {
             return now;
         }
-        return neg_infinity();
+        return f64::NEG_INFINITY;
     }
     since
 }
@@ -183,7 +179,7 @@ fn since_stalled(since: f64, over: bool, now: f64) -> f64
 fn longest_until(longest: f64, since: f64, t: f64) -> f64
     ensures { result ≡ cond (eq since (inf true)) longest (max_of longest (sub binary64 t since)) }
 {
-    if since == neg_infinity() {
+    if since == f64::NEG_INFINITY {
         return longest;
     }
     max(longest, t - since)
@@ -195,21 +191,16 @@ fn look(l: Leak, m: VideoLayout, work: &[f64]) -> Looked
     ensures { LooksBy work.now m l result }
 {
     let now = l.proc_time;
-    let mb_in = l.mb_in;
-    let runs = m.runs;
-    let got = mb_in.arrived_by(runs, work, now);
-    let after = got.inflow;
-    let flow = l.flow;
-    let available = got.total - flow.transferred;
+    let got = l.mb_in.arrived_by(m.runs, work, now);
+    let available = got.total - l.flow.transferred;
     let over = available > 1.0;
     Looked {
         leak: Leak {
-            mb_in: after,
-            flow,
+            mb_in: got.inflow,
             busy_since: since_seen(l.busy_since, over, now),
             longest_busy: longest_seen(l.longest_busy, l.busy_since, over, now),
             mb_peak: max(l.mb_peak, available),
-            proc_time: now,
+            ..l
         },
         available,
     }
@@ -220,22 +211,16 @@ fn stalled(l: Leak, m: VideoLayout, work: &[f64], t: f64) -> Turned
     requires { LeakLies work.now m l }
     ensures { TurnIs work.now m t result (break (stalledOf (leak_of work.now m l) t)) }
 {
-    let mb_in = l.mb_in;
-    let runs = m.runs;
-    let got = mb_in.arrived_by(runs, work, t);
-    let after = got.inflow;
-    let flow = l.flow;
-    let fullness = got.total - flow.transferred;
+    let got = l.mb_in.arrived_by(m.runs, work, t);
+    let fullness = got.total - l.flow.transferred;
     Turned {
-        more: false,
-        total: got.total,
+        total: Some(got.total),
         leak: Leak {
-            mb_in: after,
-            flow,
+            mb_in: got.inflow,
             busy_since: since_stalled(l.busy_since, fullness > 1.0, l.proc_time),
-            longest_busy: l.longest_busy,
             mb_peak: max(l.mb_peak, fullness),
             proc_time: t,
+            ..l
         },
     }
 }
@@ -246,40 +231,29 @@ fn paced(l: Leak, m: VideoLayout, work: &[f64], t: f64, available: f64, room: f6
     requires { LeakLies work.now m l }
     ensures { TurnIs work.now m t result (pacedOf (leak_of work.now m l) t available room) }
 {
-    let mb_in = l.mb_in;
-    let runs = m.runs;
-    let marks = m.marks;
-    let got = mb_in.arrived_by(runs, work, t);
-    let after = got.inflow;
-    let flow = l.flow;
-    let arriving = got.total - flow.transferred - available;
+    let got = l.mb_in.arrived_by(m.runs, work, t);
+    let arriving = got.total - l.flow.transferred - available;
     let take = min(arriving, max(room, 0.0));
-    let moved = transfer(flow, marks, work, max(take, 0.0));
-    let mut next = l;
-    next.mb_in = after;
-    next.flow = moved;
-    next.proc_time = t;
+    let flow = transfer(l.flow, m.marks, work, max(take, 0.0));
+    let mut next = Turned {
+        total: Some(got.total),
+        leak: Leak {
+            mb_in: got.inflow,
+            flow,
+            proc_time: t,
+            ..l
+        },
+    };
     if take + 1.0 < arriving {
-        let found = after.time_of_cumulative(runs, work, moved.transferred);
-        if let ArrivalTime::At(tt) = found {
-            next.proc_time = max(tt, l.proc_time);
-            return Turned {
-                more: true,
-                total: got.total,
-                leak: next,
-            };
+        if let Some(tt) = got
+            .inflow
+            .time_of_cumulative(m.runs, work, flow.transferred)
+        {
+            next.total = None;
+            next.leak.proc_time = max(tt, l.proc_time);
         }
-        return Turned {
-            more: false,
-            total: got.total,
-            leak: next,
-        };
     }
-    Turned {
-        more: false,
-        total: got.total,
-        leak: next,
-    }
+    next
 }
 
 // Bytes wait: they leave at the rate up to t, or all of them, or as many as EBn has room for.
@@ -289,13 +263,11 @@ fn backlogged(l: Leak, m: VideoLayout, work: &[f64], t: f64, available: f64, roo
 {
     let now = l.proc_time;
     let take = min(min(m.rbx * (t - now), available), room);
-    let flow = l.flow;
-    let marks = m.marks;
-    let moved = transfer(flow, marks, work, take);
-    let mut next = l;
-    next.flow = moved;
-    next.proc_time = now + max(take / m.rbx, 1e-6);
-    next
+    Leak {
+        flow: transfer(l.flow, m.marks, work, take),
+        proc_time: now + max(take / m.rbx, 1e-6),
+        ..l
+    }
 }
 
 // A turn of the leak toward t.
@@ -303,21 +275,17 @@ fn turn(l: Leak, m: VideoLayout, work: &[f64], t: f64) -> Turned
     requires { LeakLies work.now m l }
     ensures { TurnIs work.now m t result (step_of (rates_of m) t (looked (leak_of work.now m l)) (mb_fullness (leak_of work.now m l) l.proc_time) (eb_room (rates_of m) (flow_of work.now m.marks l.flow))) }
 {
-    let flow = l.flow;
-    let room = m.eb_size - (flow.eb_in - flow.eb_removed);
+    let room = m.eb_size - (l.flow.eb_in - l.flow.eb_removed);
     let s = look(l, m, work);
-    let at = s.leak;
-    let available = s.available;
     if room <= 1.0 {
-        return stalled(at, m, work, t);
+        return stalled(s.leak, m, work, t);
     }
-    if available <= 1.0 {
-        return paced(at, m, work, t, available, room);
+    if s.available <= 1.0 {
+        return paced(s.leak, m, work, t, s.available, room);
     }
     Turned {
-        more: true,
-        total: 0.0,
-        leak: backlogged(at, m, work, t, available, room),
+        total: None,
+        leak: backlogged(s.leak, m, work, t, s.available, room),
     }
 }
 
@@ -330,47 +298,38 @@ fn turns(l: Leak, m: VideoLayout, work: &[f64], t: f64) -> Turned
     ensures { TurnsEnd work.now m t result (ran (rates_of m) t (leak_of work.now m l)) }
 {
     let mut s = Turned {
-        more: true,
-        total: 0.0,
+        total: None,
         leak: l,
     };
     let mut left = BUDGET;
     while 0 < left {
-        if s.more {
-            let at = s.leak;
-            if at.proc_time < t - 1e-6 {
-                s = turn(at, m, work, t);
-                left = left - 1;
-            } else {
-                break;
-            }
-        } else {
+        if s.total.is_some() {
             break;
         }
+        if !(s.leak.proc_time < t - 1e-6) {
+            break;
+        }
+        s = turn(s.leak, m, work, t);
+        left = left - 1;
     }
     s
 }
 
-// The runs up to t are settled, and total is what has arrived by then; a look at t that was the last one is not taken again.
-fn reached(s: Turned, m: VideoLayout, work: &[f64], t: f64) -> Turned
+// The runs up to t are settled, with what has arrived by then; a look at t that was the last one is not taken again.
+fn reached(s: Turned, m: VideoLayout, work: &[f64], t: f64) -> (Leak, f64)
     requires leak_lies { LeakLies work.now m s.leak }
-    requires settled_at { s.more ≡ false → SettledAt (leak_of work.now m s.leak).mb_in t s.total }
-    ensures { ReachedBy work.now m t s.leak result }
+    requires settled_at { (total : Float) → s.total ≡ Some total → SettledAt (leak_of work.now m s.leak).mb_in t total }
+    ensures { ReachedBy work.now m t s.leak result.0 result.1 }
 {
-    if s.more {
-        let mut next = s.leak;
-        let mb_in = next.mb_in;
-        let runs = m.runs;
-        let got = mb_in.arrived_by(runs, work, t);
-        let after = got.inflow;
-        next.mb_in = after;
-        return Turned {
-            more: false,
-            total: got.total,
-            leak: next,
-        };
+    if let Some(total) = s.total {
+        return (s.leak, total);
     }
-    s
+    let got = s.leak.mb_in.arrived_by(m.runs, work, t);
+    let leak = Leak {
+        mb_in: got.inflow,
+        ..s.leak
+    };
+    (leak, got.total)
 }
 
 // Behind the turns: MBn's peak, its overflow and its busy stretch at t, where total has arrived.
@@ -386,8 +345,7 @@ fn closed(
     requires { k ≤ 64 }
     ensures { ClosedBy m l total t k (slots firsts.old figures.old) (slots firsts.new figures.new) result }
 {
-    let flow = l.flow;
-    let fullness = total - flow.transferred;
+    let fullness = total - l.flow.transferred;
     note_if(
         firsts,
         figures,
@@ -396,11 +354,12 @@ fn closed(
         fullness,
         0.0,
     );
-    let mut next = l;
-    next.longest_busy = longest_until(l.longest_busy, l.busy_since, t);
-    next.mb_peak = max(l.mb_peak, fullness);
-    next.proc_time = max(l.proc_time, t);
-    next
+    Leak {
+        longest_busy: longest_until(l.longest_busy, l.busy_since, t),
+        mb_peak: max(l.mb_peak, fullness),
+        proc_time: max(l.proc_time, t),
+        ..l
+    }
 }
 
 // The leak up to t; the first call only sets the clock.
@@ -417,15 +376,12 @@ fn leak_until(
     requires k_bound { k ≤ 64 }
     ensures { LeaksTo work.now m t k (slots firsts.old figures.old) (slots firsts.new figures.new) (leak_of work.now m l) result }
 {
-    if l.proc_time == neg_infinity() {
-        let mut next = l;
-        next.proc_time = t;
-        return next;
+    if l.proc_time == f64::NEG_INFINITY {
+        return Leak { proc_time: t, ..l };
     }
     let s = turns(l, m, work, t);
-    let e = reached(s, m, work, t);
-    let at = e.leak;
-    closed(at, m, e.total, t, firsts, figures, k)
+    let (leak, total) = reached(s, m, work, t);
+    closed(leak, m, total, t, firsts, figures, k)
 }
 
 // The branch behind the transport buffer; the unit whose bytes still arrive has a decode time of -infinity where there is none.
@@ -440,49 +396,19 @@ pub struct VideoBranch {
     pub max_delay_seconds: f64,
 }
 
-// The pending unit that is due, if one is, and the time that the leak goes on to.
-#[derive(Clone, Copy)]
-pub struct Due {
-    due: bool,
-    to: f64,
-    unit: AccessUnit,
-}
-
-// more: a unit was removed, and there may be others.
-#[derive(Clone, Copy)]
-pub struct Removal {
-    more: bool,
-    branch: VideoBranch,
-}
-
-fn next_due(q: Ring, w: Place, work: &[f64], frontier: f64) -> Due
+// The first pending unit, where it is due.
+fn next_due(q: Ring, w: Place, work: &[f64], frontier: f64) -> Option<AccessUnit>
     requires { Lies 3 work.now w q }
     ensures { DueOf work.now w q frontier result }
 {
-    if 0 < q.count {
-        let unit = unit_at(q, w, work, 0);
-        if unit.decode_time <= frontier {
-            return Due {
-                due: true,
-                to: unit.decode_time,
-                unit,
-            };
-        }
-        return Due {
-            due: false,
-            to: frontier,
-            unit,
-        };
+    if q.count == 0 {
+        return None;
     }
-    Due {
-        due: false,
-        to: frontier,
-        unit: AccessUnit {
-            decode_time: frontier,
-            bytes: 0.0,
-            first_input_time: frontier,
-        },
+    let unit = unit_at(q, w, work, 0);
+    if !(unit.decode_time <= frontier) {
+        return None;
     }
+    Some(unit)
 }
 
 // The events of a removal.
@@ -523,55 +449,21 @@ fn remove(
     requires k_bound { (k ≤ 64) × (b.access_units < 18446744073709551615) }
     ensures { RemovedBy m b u k (slots firsts.old figures.old) (slots firsts.new figures.new) result }
 {
-    let mut leak = b.leak;
-    let mut flow = leak.flow;
     let required = b.eb_required + u.bytes;
-    note_removal(flow.eb_in, required, u, firsts, figures, k);
-    flow.eb_removed = min(required, flow.eb_in);
-    leak.flow = flow;
-    let q = b.pending;
-    let units = m.units;
-    let rest = pop(q, units);
-    let mut next = b;
-    next.leak = leak;
-    next.pending = rest;
-    next.eb_required = required;
-    next.max_delay_seconds = max(b.max_delay_seconds, u.decode_time - u.first_input_time);
-    next.access_units = b.access_units + 1;
-    next
-}
-
-// The leak up to the first pending unit's decode time and its removal; or up to the frontier where that comes first.
-fn next_removal(
-    b: VideoBranch,
-    m: VideoLayout,
-    work: &[f64],
-    frontier: f64,
-    firsts: &mut [u64; 64],
-    figures: &mut [f64; 128],
-    k: usize,
-) -> Removal
-    requires video_lies { VideoLies work.now m b }
-    requires k_bound { (k ≤ 64) × (b.access_units + b.pending.count ≤ 18446744073709551615) }
-    ensures { RemovalOf work.now m frontier k b (slots firsts.old figures.old) result (slots firsts.new figures.new) }
-{
-    let q = b.pending;
-    let units = m.units;
-    let d = next_due(q, units, work, frontier);
-    let l = b.leak;
-    let leaked = leak_until(l, m, work, d.to, firsts, figures, k);
-    let mut next = b;
-    next.leak = leaked;
-    if d.due {
-        let u = d.unit;
-        return Removal {
-            more: true,
-            branch: remove(next, m, u, firsts, figures, k),
-        };
-    }
-    Removal {
-        more: false,
-        branch: next,
+    note_removal(b.leak.flow.eb_in, required, u, firsts, figures, k);
+    VideoBranch {
+        leak: Leak {
+            flow: Flow {
+                eb_removed: min(required, b.leak.flow.eb_in),
+                ..b.leak.flow
+            },
+            ..b.leak
+        },
+        pending: pop(b.pending, m.units),
+        eb_required: required,
+        max_delay_seconds: max(b.max_delay_seconds, u.decode_time - u.first_input_time),
+        access_units: b.access_units + 1,
+        ..b
     }
 }
 
@@ -589,15 +481,19 @@ fn advance(
     requires k_bound { (k ≤ 64) × (b.access_units + b.pending.count ≤ 18446744073709551615) }
     ensures { AdvancedTo work.now m k b.open_au (slots firsts.old figures.old) (advanceOf (rates_of m) frontier (video_of work.now m b)) result (slots firsts.new figures.new) }
 {
-    let mut s = Removal {
-        more: true,
-        branch: b,
-    };
-    while s.more {
-        let cur = s.branch;
-        s = next_removal(cur, m, work, frontier, firsts, figures, k);
+    let mut cur = b;
+    loop {
+        let due = next_due(cur.pending, m.units, work, frontier);
+        let to = match due {
+            Some(u) => u.decode_time,
+            None => frontier,
+        };
+        cur.leak = leak_until(cur.leak, m, work, to, firsts, figures, k);
+        let Some(u) = due else {
+            return cur;
+        };
+        cur = remove(cur, m, u, firsts, figures, k);
     }
-    s.branch
 }
 
 // full: a queue had no place left.
@@ -613,37 +509,25 @@ fn close_au(b: VideoBranch, m: VideoLayout, work: &mut [f64], wanted: bool) -> S
     requires apart { Apart m }
     ensures { VideoFedTo work.old m b (cond wanted (close_au m.runs.depth (chain_of work.old m b)) (fed (chain_of work.old m b))) result work.new }
 {
-    let u = b.open_au;
-    if wanted {
-        if is_open(u) {
-            let q = b.pending;
-            let units = m.units;
-            let e = Three {
-                a: u.decode_time,
-                b: u.bytes,
-                c: u.first_input_time,
-            };
-            let pushed = push(q, units, work, e);
-            if pushed.full {
-                return Stepped {
-                    full: true,
-                    branch: b,
-                };
-            }
-            let next = pushed.ring;
-            let none = no_unit();
-            let mut c = b;
-            c.pending = next;
-            c.open_au = none;
-            return Stepped {
-                full: false,
-                branch: c,
-            };
-        }
+    if !wanted || !is_open(b.open_au) {
+        return Stepped {
+            full: false,
+            branch: b,
+        };
     }
+    let Some(pending) = push(b.pending, m.units, work, entry_of(b.open_au)) else {
+        return Stepped {
+            full: true,
+            branch: b,
+        };
+    };
     Stepped {
         full: false,
-        branch: b,
+        branch: VideoBranch {
+            pending,
+            open_au: no_unit(),
+            ..b
+        },
     }
 }
 
@@ -653,27 +537,23 @@ fn queue_run(b: VideoBranch, m: VideoLayout, work: &mut [f64], run: Run, metric:
     requires apart { Apart m }
     ensures { QueuedTo work.old m b run metric result work.new }
 {
-    let mut leak = b.leak;
-    let mb_in = leak.mb_in;
-    let runs = m.runs;
-    let pushed = mb_in.push_run(runs, work, run);
-    let after = pushed.inflow;
-    leak.mb_in = after;
-    let mut next = b;
-    next.leak = leak;
-    if pushed.full {
+    let Some(mb_in) = b.leak.mb_in.push_run(m.runs, work, run) else {
         return Stepped {
             full: true,
-            branch: next,
+            branch: b,
         };
-    }
-    let mut u = b.open_au;
-    u.bytes = u.bytes + metric;
-    next.open_au = u;
-    next.queued = b.queued + run.bytes;
+    };
     Stepped {
         full: false,
-        branch: next,
+        branch: VideoBranch {
+            leak: Leak { mb_in, ..b.leak },
+            open_au: AccessUnit {
+                bytes: b.open_au.bytes + metric,
+                ..b.open_au
+            },
+            queued: b.queued + run.bytes,
+            ..b
+        },
     }
 }
 
@@ -683,21 +563,19 @@ fn mark_run(b: VideoBranch, m: VideoLayout, work: &mut [f64], bytes: f64) -> Vid
     requires apart { Apart m × (b.leak.flow.marks.count < m.marks.depth) }
     ensures { MarkedTo work.old m b bytes result work.new }
 {
-    let mut leak = b.leak;
-    let mut flow = leak.flow;
-    let q = flow.marks;
-    let w = m.marks;
-    let mark = HeaderMark {
-        threshold: b.queued,
-        bytes,
+    let Some(marks) = push(b.leak.flow.marks, m.marks, work, [b.queued, bytes]) else {
+        return b;
     };
-    let pushed = push_mark(q, w, work, mark);
-    let marks = pushed.ring;
-    flow.marks = marks;
-    leak.flow = flow;
-    let mut next = b;
-    next.leak = leak;
-    next
+    VideoBranch {
+        leak: Leak {
+            flow: Flow {
+                marks,
+                ..b.leak.flow
+            },
+            ..b.leak
+        },
+        ..b
+    }
 }
 
 // A run of content: its bytes are the open unit's too.
@@ -737,10 +615,9 @@ fn add_header(b: VideoBranch, m: VideoLayout, work: &mut [f64], run: Run) -> Ste
     if s.full {
         return s;
     }
-    let cur = s.branch;
     Stepped {
         full: false,
-        branch: mark_run(cur, m, work, run.bytes),
+        branch: mark_run(s.branch, m, work, run.bytes),
     }
 }
 
@@ -765,20 +642,15 @@ fn deliver(b: VideoBranch, m: VideoLayout, work: &mut [f64], d: Delivered) -> St
         a = s.branch;
         a.open_au = u;
     }
-    let head = d.head;
-    let first = add_header(a, m, work, head);
+    let first = add_header(a, m, work, d.head);
     if first.full {
         return first;
     }
-    let rest = d.rest;
-    let c = first.branch;
-    let second = add_header(c, m, work, rest);
+    let second = add_header(first.branch, m, work, d.rest);
     if second.full {
         return second;
     }
-    let body = d.body;
-    let e = second.branch;
-    add_content(e, m, work, body)
+    add_content(second.branch, m, work, d.body)
 }
 
 // How far the leak goes on: at the end, until all that is queued has left.
@@ -879,9 +751,8 @@ fn chain_step(
     if s.full {
         return s;
     }
-    let c = s.branch;
-    let f = frontier(c, m, end, t);
-    let a = advance(c, m, work, f, firsts, figures, k);
+    let f = frontier(s.branch, m, end, t);
+    let a = advance(s.branch, m, work, f, firsts, figures, k);
     if end {
         return note_busy(a, firsts, figures, k);
     }
@@ -894,7 +765,6 @@ impl VideoBranch {
         ensures { result ≡ new_branch }
     {
         let none = Ring { head: 0, count: 0 };
-        let no_au = no_unit();
         VideoBranch {
             leak: Leak {
                 mb_in: CumulativeIn {
@@ -908,13 +778,13 @@ impl VideoBranch {
                     eb_removed: 0.0,
                     eb_peak: 0.0,
                 },
-                busy_since: neg_infinity(),
+                busy_since: f64::NEG_INFINITY,
                 longest_busy: 0.0,
                 mb_peak: 0.0,
-                proc_time: neg_infinity(),
+                proc_time: f64::NEG_INFINITY,
             },
             pending: none,
-            open_au: no_au,
+            open_au: no_unit(),
             queued: 0.0,
             eb_required: 0.0,
             access_units: 0,
@@ -933,8 +803,7 @@ impl VideoBranch {
                 branch: self,
             };
         }
-        let m = layout(p);
-        close_au(self, m, work, true)
+        close_au(self, layout(p), work, true)
     }
 
     // One step of the chain: a packet that arrives at t and delivers d, or the end. Its events go to the slots from k on.
@@ -954,8 +823,7 @@ impl VideoBranch {
         ensures { StepOf work.old p self d end t k (slots firsts.old figures.old) result work.new (slots firsts.new figures.new) }
     {
         if ready(self, p, work.len(), k) {
-            let m = layout(p);
-            return chain_step(self, m, work, d, end, t, firsts, figures, k);
+            return chain_step(self, layout(p), work, d, end, t, firsts, figures, k);
         }
         Stepped {
             full: false,

@@ -2,4 +2,4 @@
 use Rattle.branch.proofs.inflow.run_at.Goals as goal
 
 pub returns : goal.returns
-returns c = simp c.entry-e.ensures
+returns c = simp c.entry.ensures

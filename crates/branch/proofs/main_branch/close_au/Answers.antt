@@ -1,22 +1,27 @@
 -- `branch::main_branch::close_au` meets its contract. Assumes nothing.
 use mathlib.Core.Path.{sym, ◌∙◌}
+use native.Mathlib.Omega.{arith}
 use Rattle.branch.proofs.Feeding.{fed_same, close_none, close_full, close_pushed}
 use Rattle.branch.proofs.main_branch.close_au.Goals as goal
+use Rattle.branch.proofs.main_branch.close_au.Goals.{then-not-wanted-via-then-not-wanted, then-not-wanted-via-else-not-wanted+then-not-is_open}
 
 pub returns-then-not-wanted : goal.returns-then-not-wanted
-returns-then-not-wanted c = fed_same _ _ _ _ c.requires (rw c.if-not-wanted.true)
+returns-then-not-wanted c =
+    elim c.then-not-wanted.branch [
+      | then-not-wanted-via-then-not-wanted w ↦ fed_same _ _ _ _ c.requires (rw w.if-not-wanted.true)
+      | then-not-wanted-via-else-not-wanted+then-not-is_open w ↦
+          fed_same _ _ _ _ c.requires (rw w.if-not-wanted.false (close_none _ _ _ (sym w.is_open.ensures ∙ w.if-not-is_open.true)))
+    ]
 
-pub returns-then-not-is_open : goal.returns-then-not-is_open
-returns-then-not-is_open c =
-    fed_same _ _ _ _ c.requires (rw c.if-not-wanted.false (close_none _ _ _ (sym c.is_open.ensures ∙ c.if-not-is_open.true)))
+pub push-requires : goal.push-requires
+push-requires c = (omega arith, (rw c.units_place.ensures c.requires.pending, omega arith))
 
-pub push-pushed-requires : goal.push-pushed-requires
-push-pushed-requires c = rw c.units_place.ensures c.requires.pending
-
-pub returns-then-pushed : goal.returns-then-pushed
-returns-then-pushed c =
-    rw c.if-not-wanted.false (close_full _ _ _ _ _ c.units_place.ensures c.requires _ (sym c.is_open.ensures ∙ c.if-not-is_open.false) c.push-pushed.ensures c.if-pushed.true)
+pub returns-in_default : goal.returns-in_default
+returns-in_default c =
+    rw c.if-not-wanted.false
+    (close_full _ _ _ _ _ c.units_place.ensures c.requires (sym c.is_open.ensures ∙ c.if-not-is_open.false) _ (rw c.entry_of.ensures at c.push.ensures) c.in_default.is)
 
 pub returns : goal.returns
 returns c =
-    rw (c.if-not-wanted.false, c.no_unit-none.ensures) (close_pushed _ _ _ _ _ c.units_place.ensures c.requires _ (sym c.is_open.ensures ∙ c.if-not-is_open.false) c.push-pushed.ensures c.if-pushed.false)
+    rw (c.if-not-wanted.false, c.no_unit.ensures)
+    (close_pushed _ _ _ _ _ c.units_place.ensures c.requires (sym c.is_open.ensures ∙ c.if-not-is_open.false) _ (rw c.entry_of.ensures at c.push.ensures) _ c.in-Some.is)

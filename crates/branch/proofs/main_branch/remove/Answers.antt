@@ -6,8 +6,8 @@ use Rattle.branch.proofs.main_branch.remove.Goals as goal
 pub arrived_by-got-requires : goal.arrived_by-got-requires
 arrived_by-got-requires c = rw c.runs_place.ensures c.requires.lies
 
-pub overflow_add-m : goal.overflow_add-m
-overflow_add-m c = omega (arith, c.requires.k_bound.1)
+pub overflow_add-result : goal.overflow_add-result
+overflow_add-result c = omega (arith, c.requires.k_bound.1)
 
 pub returns : goal.returns
 returns c =

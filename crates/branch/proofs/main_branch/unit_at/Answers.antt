@@ -2,4 +2,4 @@
 use Rattle.branch.proofs.main_branch.unit_at.Goals as goal
 
 pub returns : goal.returns
-returns c = simp c.entry-e.ensures
+returns c = simp c.entry.ensures

@@ -1,18 +1,39 @@
 -- `branch::video_branch::advance` meets its contract. Assumes nothing.
+use mathlib.Core.Path.{◌≡◌}
+use native.Mathlib.Omega.{arith}
+use Rattle.branch.specs.VideoInWork.{DueOf, until}
 use Rattle.branch.proofs.VideoAdvance.{advance_starts, advance_less, advance_more, advance_ends}
 use Rattle.branch.proofs.video_branch.advance.Goals as goal
+use Rattle.branch.proofs.video_branch.advance.Goals.{Joined-due, in-Some, in-None}
 
-pub loop-s-init : goal.loop-s-init
-loop-s-init c = advance_starts _ _ _ _ _ _ c.requires.video_lies c.requires.k_bound.1
+-- the first unit that is due, and how far the leak goes on before that
+module _ (c : Joined-due) where
+  due : DueOf c.args.work.now c.args.m.units c.loop-u.cur.pending c.args.frontier c.match-due.due
+  due = elim c.match-due.branch [ in-Some w ↦ rw w.due-is (rw w.in-Some.is at c.next_due-due.ensures) | in-None w ↦ rw w.due-is c.next_due-due.ensures ]
 
-pub next_removal-s-requires : goal.next_removal-s-requires
-next_removal-s-requires c = record { video_lies = c.loop-s.invariant.lies; k_bound = (c.requires.k_bound.0, c.loop-s.invariant.bound) }
+  time : c.match-due.to ≡ until c.match-due.due c.args.frontier
+  time = elim c.match-due.branch [ in-Some w ↦ rw (w.due-is, w.to-is) | in-None w ↦ rw (w.due-is, w.in-None.is, w.to-is) ]
 
-pub loop-s-smaller : goal.loop-s-smaller
-loop-s-smaller c = advance_less _ _ _ _ _ _ _ _ _ _ c.loop-s.invariant c.loop-s-test.true c.next_removal-s.ensures
+pub loop-u-init : goal.loop-u-init
+loop-u-init c = advance_starts _ _ _ _ _ _ c.requires.video_lies c.requires.k_bound.1
 
-pub loop-s-preserved : goal.loop-s-preserved
-loop-s-preserved c = advance_more _ _ _ _ _ _ _ _ _ _ c.loop-s.invariant c.loop-s-test.true c.next_removal-s.ensures
+pub remove-cur-requires : goal.remove-cur-requires
+remove-cur-requires c =
+    let i = c.loop-u.invariant in
+    let s = (due (goal.at.remove-cur-requires c).Joined-due).some _ c.in-Some-due.is in
+    record { head_lt_depth = (i.lies.pending.inside, s); k_bound = (c.requires.k_bound.0, omega (arith, s, i.bound)) }
 
-pub returns : goal.returns
-returns c = advance_ends _ _ _ _ _ _ _ _ c.loop-s.invariant c.loop-s-test.false
+pub loop-u-smaller : goal.loop-u-smaller
+loop-u-smaller c =
+    let j = (goal.at.loop-u-smaller c).Joined-due in
+    advance_less _ _ _ _ _ _ _ _ _ _ c.loop-u.invariant.lies (due j) (time j) c.leak_until-cur.ensures _ c.in-Some-due.is _ _ c.remove-cur.ensures
+
+pub loop-u-preserved : goal.loop-u-preserved
+loop-u-preserved c =
+    let j = (goal.at.loop-u-preserved c).Joined-due in
+    advance_more _ _ _ _ _ _ _ _ _ _ c.loop-u.invariant.lies (due j) (time j) c.leak_until-cur.ensures _ c.in-Some-due.is _ _ c.remove-cur.ensures c.loop-u.invariant
+
+pub returns-in_default : goal.returns-in_default
+returns-in_default c =
+    let j = (goal.at.returns-in_default c).Joined-due in
+    advance_ends _ _ _ _ _ _ _ _ _ _ c.loop-u.invariant.lies (due j) (time j) c.leak_until-cur.ensures c.in_default.is c.loop-u.invariant

@@ -7,7 +7,7 @@ pub returns : goal.returns
 unfolding leak_of
 returns c =
     let a = c.args in
-    let x = c.transfer-moved.ensures in
+    let x = c.transfer.ensures in
     let S = leak_of a.work.now a.m a.l in
     record {
       lies = record { runs = c.requires.runs; marks = x.lies };

@@ -1,5 +1,6 @@
 -- `branch::video_branch::stalled` meets its contract. Assumes nothing.
 use mathlib.Core.Path.{refl}
+use Rattle.branch.proofs.Rings.{some_is}
 use Rattle.branch.proofs.VideoTurns.{full_by, stalled_by, settled_at_lem}
 use Rattle.branch.specs.VideoInWork.{leak_of, flow_of}
 use Rattle.branch.proofs.video_branch.stalled.Goals as goal
@@ -16,5 +17,5 @@ returns c =
         lies = record { runs = g.after.lies; marks = c.requires.marks };
         state = stalled_by S a.t _ _ _ _ g.after.state (full_by S a.t _ g.total) c.since_stalled.ensures c.max.ensures;
       };
-      seen = λ f. settled_at_lem _ _ _ _ g.after.state g.total;
+      seen = λ x f. rw (← some_is f) (settled_at_lem _ _ _ _ g.after.state g.total);
     }

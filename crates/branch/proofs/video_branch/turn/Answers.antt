@@ -9,12 +9,12 @@ unfolding eb_room flow_of
 returns-then-room c =
     stalled_turn _ _ _ _ _ _ _ _ c.look-s.ensures.leak c.look-s.ensures.available _ c.if-room.true c.stalled.ensures
 
-pub returns-then-available : goal.returns-then-available
+pub returns-then-s : goal.returns-then-s
 unfolding eb_room flow_of
-returns-then-available c =
-    paced_turn _ _ _ _ _ _ _ _ c.look-s.ensures.leak c.look-s.ensures.available _ c.if-room.false c.if-available.true c.paced.ensures
+returns-then-s c =
+    paced_turn _ _ _ _ _ _ _ _ c.look-s.ensures.leak c.look-s.ensures.available _ c.if-room.false c.if-s.true c.paced.ensures
 
 pub returns : goal.returns
 unfolding eb_room flow_of
 returns c =
-    backlogged_turn _ _ _ _ _ _ _ _ c.look-s.ensures.leak c.look-s.ensures.available _ c.if-room.false c.if-available.false c.backlogged.ensures
+    backlogged_turn _ _ _ _ _ _ _ _ c.look-s.ensures.leak c.look-s.ensures.available _ c.if-room.false c.if-s.false c.backlogged.ensures

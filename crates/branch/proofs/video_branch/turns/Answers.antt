@@ -1,4 +1,5 @@
 -- `branch::video_branch::turns` meets its contract. Assumes nothing.
+use mathlib.Core.Path.{sym, ◌∙◌}
 use Rattle.branch.specs.VideoInWork.{leak_of}
 use Rattle.branch.proofs.VideoTurns.{turns_start, turns_more, turns_done, turns_stop, turns_end}
 use native.Mathlib.Omega.{arith}
@@ -13,14 +14,15 @@ loop-left-smaller c = omega arith
 pub loop-left-preserved : goal.loop-left-preserved
 unfolding leak_of
 loop-left-preserved c =
-    turns_more _ _ _ _ _ _ c.loop-left.invariant (omega arith) c.if-s.true _ c.if-at-t.true c.turn-s.ensures
+    turns_more _ _ _ _ _ _ c.loop-left.invariant (omega arith) (sym c.is_some.ensures ∙ c.if-is_some.false) _ c.if-not-s-t.false c.turn-s.ensures
 
 pub returns-after-loop-left : goal.returns-after-loop-left
 returns-after-loop-left c = turns_end _ _ _ _ _ _ c.loop-left.invariant (omega arith)
 
-pub returns-else-at-t : goal.returns-else-at-t
+pub returns-then-not-s-t : goal.returns-then-not-s-t
 unfolding leak_of
-returns-else-at-t c = turns_done _ _ _ _ _ _ c.loop-left.invariant (omega arith) c.if-s.true c.if-at-t.false
+returns-then-not-s-t c =
+    turns_done _ _ _ _ _ _ c.loop-left.invariant (omega arith) (sym c.is_some.ensures ∙ c.if-is_some.false) c.if-not-s-t.true
 
-pub returns-else-s : goal.returns-else-s
-returns-else-s c = turns_stop _ _ _ _ _ _ c.loop-left.invariant c.if-s.false
+pub returns-then-is_some : goal.returns-then-is_some
+returns-then-is_some c = turns_stop _ _ _ _ _ _ c.loop-left.invariant (sym c.is_some.ensures ∙ c.if-is_some.true)

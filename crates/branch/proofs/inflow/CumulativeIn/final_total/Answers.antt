@@ -9,8 +9,8 @@ pub loop-i-init : goal.loop-i-init
 loop-i-init c = walk_starts 3 _ _ _ _ _ _
 
 pub loop-i-preserved : goal.loop-i-preserved
-loop-i-preserved c = rw c.run_at-run.ensures (final_more c.loop-i.invariant (omega arith))
+loop-i-preserved c = rw c.run_at-sum.ensures (final_more c.loop-i.invariant (omega arith))
 
 pub returns : goal.returns
 unfolding final_total
-returns c = rw (final_ends c.loop-i.invariant c.loop-i-test.false)
+returns c = rw (final_ends c.loop-i.invariant (omega arith))

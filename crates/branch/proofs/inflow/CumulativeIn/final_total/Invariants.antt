@@ -1,12 +1,8 @@
 -- `branch::inflow::CumulativeIn::final_total` meets its contract. Assumes nothing.
-use Prim.Native.Nat.{◌-◌}
 use Rattle.branch.specs.InflowInWork.{runs_of}
 use Rattle.branch.specs.CumulativeIn.{bytes_from}
 use Rattle.branch.proofs.Inflows.{Finals}
 use Rattle.branch.proofs.inflow.CumulativeIn.final_total.Given as goal
 
 abbrev pub invariant-loop-i : goal.invariant-loop-i
-invariant-loop-i l = Finals l.work l.w l.q l.i l.sum (bytes_from (runs_of l.work l.w l.q) l.initial.sum)
-
-abbrev pub decreases-loop-i : goal.decreases-loop-i
-decreases-loop-i l = l.q.count - l.i
+invariant-loop-i l = Finals l.work l.w l.self.runs l.i l.sum (bytes_from (runs_of l.work l.w l.self.runs) l.initial.sum)

@@ -15,4 +15,4 @@ loop-i-preserved c =
     rw (c.fraction_by.ensures, c.run_at-run.ensures) (total_more _ c.loop-i.invariant (omega arith) (rw c.run_at-run.ensures at c.if-run-t.false))
 
 pub returns : goal.returns
-returns c = total_ends _ c.loop-i.invariant c.loop-i-test.false
+returns c = total_ends _ c.loop-i.invariant (omega arith)

@@ -1,5 +1,8 @@
 -- `branch::sys_branch::SysBranch::new` meets its contract. Assumes nothing.
+use mathlib.Core.Path.{refl}
+use lib.Ieee.{of_bits}
 use Rattle.branch.proofs.sys_branch.SysBranch.new.Goals as goal
 
 pub returns : goal.returns
-returns c = simp c.neg_infinity.ensures
+unfolding of_bits
+returns c = refl

@@ -1,8 +1,0 @@
--- `branch::infinity` meets its contract. Assumes nothing.
-use mathlib.Core.Path.{refl}
-use lib.Ieee.{of_bits, div}
-use Rattle.branch.proofs.infinity.Goals as goal
-
-pub returns : goal.returns
-unfolding of_bits div
-returns c = refl

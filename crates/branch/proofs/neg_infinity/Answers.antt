@@ -1,8 +1,0 @@
--- `branch::neg_infinity` meets its contract. Assumes nothing.
-use mathlib.Core.Path.{refl}
-use lib.Ieee.{of_bits, neg, div}
-use Rattle.branch.proofs.neg_infinity.Goals as goal
-
-pub returns : goal.returns
-unfolding of_bits neg div
-returns c = refl
