@@ -56,6 +56,7 @@ fn nearest_timestamp(raw_timestamp: u64, reference: u64) -> u64
 
 // Number 1: the reference is at the limit or above.
 // Ruled out: the reference's own epoch whatever the distance; the higher of two epochs equally near.
+#[tactic(auto, unfolding(crate::specs::Timestamp::extend_near))]
 pub fn extend_near(raw_timestamp: u64, reference: u64) -> Result<u64, Refusal>
     ensures { result ≡ extend_near raw_timestamp reference }
 {
@@ -67,6 +68,7 @@ pub fn extend_near(raw_timestamp: u64, reference: u64) -> Result<u64, Refusal>
 }
 
 // A difference of two PCRs brought within half a wrap.
+#[tactic(auto, unfolding(crate::specs::Pcr::wrapped))]
 fn wrap_step(raw: i64) -> i64
     requires { nat_abs raw < pcr_modulus }
     ensures { result ≡ wrapped raw }
@@ -85,6 +87,7 @@ fn wrap_step(raw: i64) -> i64
 impl Pcr {
     // `self` - `other`. Number 1: ticks of a whole wrap or more.
     // Ruled out, with m the modulus: -m / 2 for a difference of m / 2; a step for ticks of m.
+    #[tactic(auto, using(crate::proofs::Step::machine_difference), unfolding(crate::specs::Pcr::delta_ticks))]
     pub fn delta_ticks(self, other: Pcr) -> Result<i64, Refusal>
         ensures { result ≡ delta_ticks self other }
     {

@@ -10,6 +10,7 @@ ghost use Rattle.syntax.specs.TimeStamp.{timestamp};
 const WITHOUT_OPTIONAL_HEADER: [u8; 8] = [0xBC, 0xBE, 0xBF, 0xF0, 0xF1, 0xFF, 0xF2, 0xF8];
 
 // Ruled out: yes for one of the eight; no for an id that is none of them, such as 0xE0 or 0xBD.
+#[tactic(auto, unfolding(crate::specs::StreamId::has_optional_header))]
 pub fn has_optional_pes_header(stream_id: u8) -> bool
     ensures { result ≡ has_optional_header stream_id }
 {

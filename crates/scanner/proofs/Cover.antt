@@ -116,10 +116,6 @@ module _ (n size s t : ℕ) (x : Option ℕ) where
   unfolding cut
   cut_stamp h k = rw (lt-ltb n s h, le-leb s (n + size) k)
 
-  cut_behind : s ≤ n → (cut n size s t x).head ≡ 0
-  unfolding cut
-  cut_behind h = omega arith
-
   cut_header : s ≤ t → (cut n size s t x).head + (cut n size s t x).rest ≡ min size (t - n)
   unfolding cut
   cut_header h = let k : min size (s - n) ≤ min size (t - n) = omega arith in omega arith
