@@ -10,7 +10,7 @@ ghost use Rattle.arrival.specs.Samples.{ticks_of};
 ghost use Rattle.arrival.specs.Work.{holds, interval_in, nowhere_at, cursor_at, advance, start_of_arrival, next_arrival};
 ghost use Rattle.arrival.specs.Pass.{no_sample, store_times, store_places, first_refusal, refusal_at, in_range, closed_by, take_sample, Builds, answer_of, no_packet, other_packet, pass_field, pass_packet, Passes};
 
-use clock::PCR_MODULUS_27MHZ;
+use clock::{PCR_MODULUS_27MHZ, TIMESTAMP_MODULUS_90KHZ};
 use error::Refusal;
 use packet::{ClockReference, TsError, TsPacket};
 
@@ -52,7 +52,7 @@ pub struct ClockBuild {
     pub samples: usize,
     pub anchor: Anchor,
     pub refusal: Option<ClockFault>,
-    // 0 where there is none.
+    // 0 where there is none. Apart from the refusal, as a pair in one Option is copied with its padding: see `ClockFault`.
     pub refused_sample: u64,
 }
 
@@ -74,7 +74,8 @@ pub struct RateInterval {
     pub pcr_ref_90k: u64,
 }
 
-// The interval that the cursor is at; `until` is where the next begins.
+// The interval that the cursor is at; `until` is where the next begins, or NEVER: the cursor is copied for each packet, and an Option
+// would be twice as long.
 #[derive(Clone, Copy)]
 pub struct Cursor {
     pub index: usize,
@@ -94,6 +95,7 @@ pub struct PacketArrival {
 // Behind every position: there is no next interval.
 const NEVER: u64 = u64::MAX;
 
+// Here and below, interval i stands at `from` + 3 i in `times` and at 2 i in `places`, which the caller lends: nothing is allocated.
 #[tactic(auto, unfolding(crate::specs::Work::holds))]
 fn holds_intervals(n: usize, times: &[f64], from: usize, places: &[u64]) -> bool
     ensures { result ≡ holds n times.now from places.now }
@@ -110,7 +112,7 @@ fn in_seconds(ticks: u64) -> f64
 fn ticks_of(reference: ClockReference) -> u64
     ensures { result ≡ ticks_of reference }
 {
-    reference.base % 0x2_0000_0000 * 300 + u64::from(reference.extension % 512)
+    reference.base % TIMESTAMP_MODULUS_90KHZ * 300 + u64::from(reference.extension % 512)
 }
 
 impl Anchor {
@@ -170,7 +172,7 @@ impl Anchor {
         }
         let dt = in_seconds(step);
         let rate = bytes / dt;
-        if (rate < 1000.0) | (rate > 1000000000.0) {
+        if rate < 1000.0 || rate > 1000000000.0 {
             return Err(Refusal::RateOutsideLimits { sample: n });
         }
         Ok(Closed {
@@ -213,8 +215,8 @@ impl From<Refusal> for ClockFault {
     // `Anchor::close` gives no refusal but these three kinds.
     fn from(refusal: Refusal) -> ClockFault {
         match refusal {
-            Refusal::DiscontinuityBeforeRate { sample: _ } => ClockFault::DiscontinuityBeforeRate,
-            Refusal::RepeatedPcr { sample: _ } => ClockFault::RepeatedPcr,
+            Refusal::DiscontinuityBeforeRate { .. } => ClockFault::DiscontinuityBeforeRate,
+            Refusal::RepeatedPcr { .. } => ClockFault::RepeatedPcr,
             _ => ClockFault::RateOutsideLimits,
         }
     }
@@ -254,9 +256,7 @@ impl ClockBuild {
     fn in_range(self, sample: Sample) -> bool
         ensures { result ≡ in_range self sample }
     {
-        (sample.ticks < 0x8000_0000_0000_0000)
-            & (self.samples < 0x8000_0000_0000_0000)
-            & (self.anchor.extended < 0x8000_0000_0000_0000)
+        sample.ticks < 1 << 63 && self.samples < 1 << 63 && self.anchor.extended < 1 << 63
     }
 
     #[tactic(auto, unfolding(crate::specs::Pass::closed_by))]
@@ -314,7 +314,7 @@ impl ClockBuild {
                 ..self
             };
         }
-        if self.refusal.is_some() | (depth <= self.samples) {
+        if self.refusal.is_some() || depth <= self.samples {
             return ClockBuild {
                 samples: self.samples + 1,
                 ..self
@@ -387,7 +387,7 @@ impl ClockPass {
             return self;
         }
         let start = self.start + 188;
-        let marked = self.pending_discontinuity | discontinuity_indicator;
+        let marked = self.pending_discontinuity || discontinuity_indicator;
         match pcr {
             None => ClockPass {
                 start,
@@ -545,7 +545,7 @@ impl Cursor {
     {
         let mut next = self;
         let last = count.saturating_sub(1);
-        while (next.index < last) & (next.until <= pos) {
+        while next.index < last && next.until <= pos {
             next = Cursor::at(times, from, places, count, next.index + 1);
         }
         next
