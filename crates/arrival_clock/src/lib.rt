@@ -19,7 +19,7 @@ fn whole_packets(bytes: &[u8], layout: TsPacketLayout, count: usize) -> usize
 {
     let size = layout.packet_size;
     let len = bytes.len();
-    if (size < 188) | (len < size) {
+    if size < 188 || len < size {
         return 0;
     }
     let room = len - 188;
@@ -85,6 +85,7 @@ pub fn build(
     let mut pass = ClockPass::new();
     let whole = whole_packets(bytes, layout, count);
     let mut k = 0;
+    // A `while`: each turn goes to the next field, and no step is known before the search.
     while k < count {
         let next = next_field_on(bytes, layout, k, whole, pcr_pid);
         pass.start = start_behind(pass.start, next - k);
