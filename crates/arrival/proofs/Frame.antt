@@ -1,5 +1,5 @@
 -- The pass writes only where its intervals stand: 3 * depth floats from `from` on, and the first 2 * depth numbers.
-use Rattle.std.proofs.Common.{◌≡◌, ℕ, ◌+◌, ◌-◌, ◌*◌, ◌<◌, ◌≤◌, Bool, true, false, cond, ◌&&◌, ◌||◌, eqb, leb, List, [], ◌∷◌, length, take, drop, set, refl, ◌∙◌, true≢false, leb-false, arith, length-set, drop-set-lt, Result, Ok, Err, is_some}
+use Rattle.std.proofs.Common.{◌≡◌, ℕ, ◌+◌, ◌-◌, ◌*◌, ◌<◌, ◌≤◌, Bool, true, false, cond, ◌&&◌, ◌||◌, eqb, leb, List, [], ◌∷◌, length, take, drop, set, refl, ◌∙◌, arith, length-set, drop-set-lt, Result, Ok, Err, is_some}
 use lib.Seq.{take-set-le}
 use lib.Ieee.{Float}
 use Rattle.error.specs.declared.Refusal.{Refusal}
@@ -19,11 +19,6 @@ module _ {A : Type 0} (n : ℕ) (l : List A) (p : ℕ) (a b : A) where
 
   drop_pair : p + 1 < n → drop n (set (set l p a) (p + 1) b) ≡ drop n l
   drop_pair h = drop-set-lt n (set l p a) (p + 1) b h ∙ drop-set-lt n l p a (omega arith)
-
--- neither refused nor full
-below_depth : (refused : Bool) (depth n : ℕ) → (refused || leb depth n) ≡ false → n < depth
-below_depth false depth n h = leb-false depth n h
-below_depth true depth n h = absurd (true≢false h)
 
 module _ (depth from : ℕ) where
   -- w' has the work of w but where the intervals stand
@@ -77,7 +72,7 @@ module _ (depth from : ℕ) where
           → KeepsWork w (cond t (cond z (counted w (anchor_at s)) (cond r (counted w w.build.anchor) (closed_by from w (close w.build.samples w.build.anchor s)))) w)
       by true true r e = keeps_all w.times w.places
       by true false true e = keeps_all w.times w.places
-      by true false false e = closed_keeps w _ (below_depth (is_some w.build.refusal) depth w.build.samples e)
+      by true false false e = closed_keeps w _ (grind arith)
       by false z r e = keeps_all w.times w.places
 
   pub samples_keep : (ss : List Sample) (w : Building) → KeepsWork w (take_samples depth from w ss)

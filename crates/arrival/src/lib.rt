@@ -103,6 +103,7 @@ fn holds_intervals(n: usize, times: &[f64], from: usize, places: &[u64]) -> bool
     from <= times.len() && n <= (times.len() - from) / 3 && n <= places.len() / 2
 }
 
+// Not `ieee::as_float`, which tests for a count below 2^31: one of ticks is seldom so small.
 fn in_seconds(ticks: u64) -> f64
     ensures { result ≡ seconds ticks }
 {
@@ -212,7 +213,8 @@ impl From<Refusal> for ClockFault {
 
     ghost from_gives = { λ refusal fault. fault ≡ first_refusal refusal };
 
-    // `Anchor::close` gives no refusal but these three kinds.
+    // `Anchor::close` gives no refusal but these three kinds. Ruled out: a repeated PCR kept as a rate outside the limits; a mark kept as a
+    // repeated PCR.
     fn from(refusal: Refusal) -> ClockFault {
         match refusal {
             Refusal::DiscontinuityBeforeRate { .. } => ClockFault::DiscontinuityBeforeRate,
