@@ -24,7 +24,6 @@ use Rattle.analyze.specs.Chains.{one_per_chain}
 
 -- ---- numbers
 refused_number : (x : Refusal) → 1 ≤ (code_of x).number
-unfolding code_of
 refused_number Refusal.OutsideLimits = omega arith
 refused_number Refusal.WorkTooShort = omega arith
 refused_number Refusal.RecordingTooLong = omega arith
@@ -140,7 +139,6 @@ module _ (c : TStdConfig) (a b : List ℕ) (lent lent' left left' : Lent) (code 
 
   -- of these conditions the recording enters the third alone, by its length
   alike : length a ≡ length b → (x : Refusal) → (code_of x).number ≤ 3 → RefusedBy replay_limits c (room_of lent) a x → RefusedBy replay_limits c (room_of lent) b x
-  unfolding code_of
   alike n Refusal.OutsideLimits k h = h
   alike n Refusal.WorkTooShort k h = h
   alike n Refusal.RecordingTooLong k h = record { within = h.within; covered = h.covered; long = rw (sym n) h.long }

@@ -1,8 +1,7 @@
 // `analyze_tstd` as a caller has it: the work, the row of chain figures and the report are lent. The replay itself is tstd's.
 #![tactic(auto)]
 
-ghost use Rattle.std.specs.Prelude.{◌≡◌, ◌<◌, ◌≤◌, length, get_or};
-ghost use Rattle.report.specs.Report.{empty_stats};
+ghost use Rattle.std.specs.Prelude.{◌≡◌, ◌≤◌, length};
 ghost use Rattle.analyze.specs.Analyze.{written, lending, Analyzed};
 
 use answer::Figures;
@@ -10,24 +9,14 @@ use error::Code;
 use profile::TStdConfig;
 use report::{TStdChainStats, TStdReport};
 
-fn record_at(figures: Figures, i: usize) -> TStdChainStats
-    requires { i < 9 }
-    ensures { result ≡ get_or figures.rows i (empty_stats 0) }
-{
-    figures.rows[i]
-}
-
 // The figures' records in use go to the front of the row, and the others of the row stay.
+#[tactic(auto, unfolding(crate::specs::Analyze::written))]
 fn fill_row(row: &mut [TStdChainStats], figures: Figures)
     requires { (figures.count ≤ 9) × (figures.count ≤ length row.old) }
     ensures { row.new ≡ written figures row.old }
 {
     let n = figures.count;
-    let mut i = 0;
-    while i < n {
-        row[i] = record_at(figures, i);
-        i += 1;
-    }
+    row[..n].copy_from_slice(&figures.rows[..n]);
 }
 
 // Number 0 is an accepted recording: its report, and its figures at the front of the row. Any other number leaves both as they were.
