@@ -2,7 +2,7 @@
 // boundary and compared word by word. A case is given by the list from its first byte on.
 #![tactic(auto)]
 
-ghost use Rattle.std.specs.Prelude.{◌≡◌, ◌*◌, ◌<◌, ◌≤◌, length};
+ghost use Rattle.std.specs.Prelude.{◌≤◌, length, IfSome};
 
 use reading::read_full;
 use std::fs::File;
@@ -20,11 +20,10 @@ const BEFORE: u64 = 99;
 
 const NEGATIVE_ZERO: u64 = 9223372036854775808;
 
+// The number of an answer that is equal, and the case's length in the list.
 #[derive(Clone, Copy)]
 struct Seen {
-    same: bool,
     number: usize,
-    // The case's length in the list.
     bytes: usize,
 }
 
@@ -36,33 +35,14 @@ struct Tally {
     bytes: usize,
 }
 
-fn wide(b: u8) -> u64
-    ensures { result ≡ b }
-{
-    b as u64
-}
-
-fn size(word: u64) -> usize
-    ensures { result ≡ word }
-{
-    word as usize
-}
-
-fn half(a: u8, b: u8, c: u8, d: u8) -> u64
-    ensures { result < 4294967296 }
-{
-    wide(a) + 256 * wide(b) + 65536 * wide(c) + 16777216 * wide(d)
-}
-
 // Word k of the list, 0 where it has fewer.
 fn word(list: &[u8], k: usize) -> u64 {
-    if k < list.len() / 8 {
-        let at = 8 * k;
-        let low = half(list[at], list[at + 1], list[at + 2], list[at + 3]);
-        let high = half(list[at + 4], list[at + 5], list[at + 6], list[at + 7]);
-        return low + 4294967296 * high;
+    if k >= list.len() / 8 {
+        return 0;
     }
-    0
+    list[8 * k..]
+        .first_chunk()
+        .map_or(0, |bytes| u64::from_le_bytes(*bytes))
 }
 
 // A zero of either sign counts as equal.
@@ -72,71 +52,44 @@ fn level(word: u64) -> u64 {
 
 // Whether the first words are the list's, and the others are what `rest` says.
 fn same_words(list: &[u8], words: &[u64], count: usize, rest: u64) -> bool {
-    let mut i = 0;
-    while i < words.len() {
+    words.iter().enumerate().all(|(i, found)| {
         let wanted = if i < count { word(list, i) } else { rest };
-        if level(words[i]) != level(wanted) {
-            return false;
-        }
-        i += 1;
-    }
-    true
+        level(*found) == level(wanted)
+    })
 }
 
 fn profile_at(list: &[u8]) -> [u64; 69] {
-    let mut profile = [0u64; 69];
-    let mut i = 0;
-    while i < 69 {
-        profile[i] = word(list, i + 1);
-        i += 1;
-    }
-    profile
+    std::array::from_fn(|i| word(list, i + 1))
 }
 
 // One record for each stream, one more where there are system PIDs.
 fn chains(streams: u64, system_pids: u64) -> usize
     ensures { result ≤ 9 }
 {
-    if 8 < streams {
+    if streams > 8 {
         return 9;
     }
-    if system_pids == 0 {
-        return size(streams);
-    }
-    size(streams) + 1
+    streams as usize + usize::from(system_pids != 0)
 }
 
-fn cut() -> Seen
-    ensures { result.bytes ≡ 0 }
-{
-    Seen {
-        same: false,
-        number: 0,
-        bytes: 0,
-    }
-}
-
-// An accepted case from the words behind its answer on: four words of the report, five for each line, six for each chain.
-fn accepted(list: &[u8], chains: usize, report: &[u64], row: &[u64]) -> Seen
+// The length of an accepted case, from the words behind its answer on: four words of the report, five for each line, six
+// for each chain. None where one differs or is cut off.
+fn accepted(list: &[u8], chains: usize, report: &[u64], row: &[u64]) -> Option<usize>
     requires { chains ≤ 9 }
-    ensures bytes_in_bounds { result.bytes ≤ length list.now }
-    ensures bytes_bound { result.bytes ≤ 3024 }
+    ensures { IfSome result (λ bytes. (bytes ≤ length list.now) × (bytes ≤ 3024)) }
 {
-    let lines = size(word(list, 3));
-    if 64 < lines {
-        return cut();
+    let lines = word(list, 3) as usize;
+    if lines > 64 {
+        return None;
     }
     let told = 4 + 5 * lines;
     let bytes = 8 * (told + 6 * chains);
     if list.len() < bytes {
-        return cut();
+        return None;
     }
-    let figures = &list[8 * told..];
-    Seen {
-        same: same_words(list, report, told, 0) & same_words(figures, row, 6 * chains, BEFORE),
-        number: 0,
-        bytes,
-    }
+    let same = same_words(list, report, told, 0)
+        & same_words(&list[8 * told..], row, 6 * chains, BEFORE);
+    same.then_some(bytes)
 }
 
 fn replay(recording: &[u8], profile: &[u64], row: &mut [u64], report: &mut [u64]) -> u64 {
@@ -145,58 +98,44 @@ fn replay(recording: &[u8], profile: &[u64], row: &mut [u64], report: &mut [u64]
     exports::tstd_replay(recording, profile, &mut times, &mut places, row, report)
 }
 
-// The recording's length, the profile, the recording in whole words, the answer's word.
-fn case(list: &[u8]) -> Seen
-    ensures { result.bytes ≤ length list.now }
+// The recording's length, the profile, the recording in whole words, the answer's word. None for a case that differs or
+// is cut off.
+fn case(list: &[u8]) -> Option<Seen>
+    ensures { IfSome result (λ seen. (seen.bytes ≤ length list.now) × (seen.number ≤ 10)) }
 {
-    let n = size(word(list, 0));
-    if 32768 < n {
-        return cut();
+    let n = word(list, 0) as usize;
+    if n > 32768 {
+        return None;
     }
-    let answer_at = 70 + (n + 7) / 8;
-    if list.len() < 8 * answer_at + 8 {
-        return cut();
+    let answer_at = 70 + n.div_ceil(8);
+    let behind = 8 * answer_at + 8;
+    if list.len() < behind {
+        return None;
     }
-    let end = 560 + n;
     let profile = profile_at(list);
     let mut row = [BEFORE; 54];
     let mut report = [BEFORE; 324];
-    let told = replay(&list[560..end], &profile, &mut row, &mut report);
-    let behind = 8 * answer_at + 8;
+    let told = replay(&list[560..560 + n], &profile, &mut row, &mut report);
     if told != word(list, answer_at) {
-        return cut();
+        return None;
     }
     if told == 0 {
-        let seen = accepted(
-            &list[behind..],
-            chains(profile[1], profile[2]),
-            &report,
-            &row,
-        );
-        return Seen {
-            same: seen.same,
+        let chains = chains(profile[1], profile[2]);
+        let bytes = accepted(&list[behind..], chains, &report, &row)?;
+        return Some(Seen {
             number: 0,
-            bytes: behind + seen.bytes,
-        };
+            bytes: behind + bytes,
+        });
     }
-    Seen {
-        same: same_words(list, &report, 0, BEFORE) & same_words(list, &row, 0, BEFORE),
-        number: size(told % 256),
+    let number = (told % 256) as usize;
+    let same = same_words(list, &report, 0, BEFORE) & same_words(list, &row, 0, BEFORE);
+    if number > 10 || !same {
+        return None;
+    }
+    Some(Seen {
+        number,
         bytes: behind,
-    }
-}
-
-fn print_count(rt: &impl Print, refusal: usize, count: u64) -> io::Result<()> {
-    println!(rt; "number {refusal}: {count}")
-}
-
-fn print_counts(rt: &impl Print, counts: [u64; 11]) -> io::Result<()> {
-    let mut i = 0;
-    while i < 11 {
-        print_count(rt, i, counts[i])?;
-        i += 1;
-    }
-    Ok(())
+    })
 }
 
 // The cases behind the list's first word, up to one that differs or is cut.
@@ -205,23 +144,20 @@ fn replay_all(list: &[u8], total: u64) -> Tally
 {
     let mut counts = [0u64; 11];
     let mut bytes = 8;
-    let mut cases = 0;
-    while cases < total {
-        let seen = case(&list[bytes..]);
-        let k = seen.number;
-        if !seen.same {
-            break;
-        }
-        if 10 < k {
-            break;
-        }
-        counts[k] = std::num::wrapping_add_u64(counts[k], 1);
+    for cases in 0..total {
+        let Some(seen) = case(&list[bytes..]) else {
+            return Tally {
+                counts,
+                cases,
+                bytes,
+            };
+        };
+        counts[seen.number] = counts[seen.number].wrapping_add(1);
         bytes += seen.bytes;
-        cases += 1;
     }
     Tally {
         counts,
-        cases,
+        cases: total,
         bytes,
     }
 }
@@ -235,10 +171,10 @@ fn print_all(rt: &impl Print, list: &[u8]) -> io::Result<()> {
         return println!(rt; "the list is empty");
     }
     let tally = replay_all(list, total);
-    let cases = tally.cases;
-    println!(rt; "cases {cases}")?;
-    let counts = tally.counts;
-    print_counts(rt, counts)?;
+    println!(rt; "cases {}", tally.cases)?;
+    for (number, count) in tally.counts.iter().enumerate() {
+        println!(rt; "number {number}: {count}")?;
+    }
     if tally.cases != total {
         return println!(rt; "the next case differs or is cut");
     }
@@ -249,12 +185,10 @@ fn print_all(rt: &impl Print, list: &[u8]) -> io::Result<()> {
 }
 
 fn main(rt: HostRuntime) -> io::Result<()> {
-    match File::open(&rt, "answers.bin") {
-        Err(_) => println!(rt; "there is no list"),
-        Ok(mut file) => {
-            let mut list = [0u8; LIST];
-            let n = read_full(&mut file, &mut list)?;
-            print_all(&rt, &list[..n])
-        }
-    }
+    let Ok(mut file) = File::open(&rt, "answers.bin") else {
+        return println!(rt; "there is no list");
+    };
+    let mut list = [0u8; LIST];
+    let n = read_full(&mut file, &mut list)?;
+    print_all(&rt, &list[..n])
 }
