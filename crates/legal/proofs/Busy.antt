@@ -13,8 +13,7 @@ use Rattle.ieee.proofs.MaxMin.{max_fits}
 use Rattle.branch.specs.declared.Run.{Run}
 use Rattle.branch.specs.declared.AccessUnit.{AccessUnit}
 use Rattle.branch.specs.declared.Delivered.{Delivered}
-use Rattle.branch.specs.declared.inflow.ArrivalTime.{ArrivalTime}
-use Rattle.branch.specs.declared.inflow.ArrivalTime.TheVariants.{At, NotQueued}
+use Rattle.std.specs.Prelude.{Option, Some, None}
 use Rattle.branch.specs.CumulativeIn.{run_refused, settle, time_of_cumulative}
 use Rattle.branch.specs.MainBranch.{OpenAu, none, unit, stamp_of}
 use Rattle.branch.specs.VideoBranch.{VideoRates, Leak, longest_seen, looked, stalled, gone, Turned, on, break, arriving, pace_take, filled, paced, backlogged, step, mb_fullness, eb_room, turn, turns, budget, closed, started, ran, leak_until, transfer, Video, with_removed, remove_unit, advance_from, advance, drain_time, finish_video, pushed_leak, push_video}
@@ -44,10 +43,10 @@ looked_fits s h =
     either (λ (x : Float). T (fits binary64 x)) (lt 1f (mb_fullness s s.proc_time)) s.longest_busy _ h (longer s.longest_busy s.busy_since s.proc_time (eq s.busy_since -∞) h)
 
 -- ---- a turn
-filled_fits : (s : Leak) (t bytes : Float) (a : ArrivalTime) → BusyFits s → BusyFits (filled s t bytes a).leak
+filled_fits : (s : Leak) (t bytes : Float) (a : Option Float) → BusyFits s → BusyFits (filled s t bytes a).leak
 unfolding filled gone
-filled_fits s t bytes (At x) h = h
-filled_fits s t bytes NotQueued h = h
+filled_fits s t bytes (Some x) h = h
+filled_fits s t bytes None h = h
 
 paced_fits : (s : Leak) (t available room : Float) → BusyFits s → BusyFits (paced s t available room).leak
 unfolding paced gone
