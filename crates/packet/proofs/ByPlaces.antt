@@ -4,7 +4,7 @@ use Prim.Native.Nat.{ℕ, ◌+◌, ◌-◌, ◌*◌, ◌/◌, ◌%◌, ◌^◌, 
 use Prim.Native.String.{String}
 use mathlib.Core.Path.{◌≡◌, refl, sym, ap, ap₂, ◌∙◌}
 use mathlib.Core.List.{List}
-use mathlib.Core.Bool.{Bool, true, false, cond, ◌&&◌, false≢true, true≢false}
+use mathlib.Core.Bool.{Bool, true, false, cond, false≢true, true≢false}
 use native.Mathlib.Omega.{arith}
 use native.Mathlib.Nat.{sub-zero}
 use lib.Dec.{eqb, ltb}
@@ -25,7 +25,9 @@ use Rattle.packet.specs.declared.ClockReference.{ClockReference}
 use Rattle.packet.specs.declared.PrivateData.{PrivateData}
 use Rattle.packet.specs.declared.Ltw.{Ltw}
 use Rattle.packet.specs.declared.SeamlessSplice.{SeamlessSplice}
-use Rattle.std.specs.Prelude.{Option, Some, None, Result, Ok, Err, ⊤}
+use Rattle.std.specs.Prelude.{Option, Some, None, Result, Ok, Err, is_some, IfSome, IsErrAnd, ⊤}
+use Rattle.std.specs.Result.{result_and}
+use Rattle.std.proofs.lemmas.Result.{err_from_is_err_and}
 use Rattle.packet.proofs.Fields as fields
 
 -- a choice by another test, and what it gives where the test holds
@@ -38,14 +40,36 @@ same_choice false false x y z e h = refl
 byte_of : (o a : ℕ) → o ≡ 8 * a → o / 8 ≡ a
 byte_of o a e = omega arith
 
--- a demand by another test, place and count
-wants_by : (limit a b n m : ℕ) (p q : Bool) (rest rest' : Result ⊤ Truncated) → p ≡ q → (p ≡ true → a ≡ b) → (p ≡ true → n ≡ m) → rest ≡ rest'
-    → wants limit p a n rest ≡ cond (q && ltb limit (b + m)) (Err (cut (limit - b) m)) rest'
+-- what `then` gives
+pub then_is : {A : Type 0} (on : Bool) (r : Option A) (v : A) → is_some r ≡ on → IfSome r (λ x. x ≡ v) → r ≡ cond on (Some v) None
+then_is true (Some x) v e p = ap Some p
+then_is true None v e p = absurd (false≢true e)
+then_is false (Some x) v e p = absurd (true≢false e)
+then_is false None v e p = refl
+
+-- what a `?` hands on
+pub handed_on : {T E : Type 0} (r : Result T E) {e : E} → IsErrAnd r (λ x. x ≡ e) → r ≡ Err e
+handed_on r p =
+    let q = err_from_is_err_and r p in
+    q.1 ∙ ap Err q.2
+
+-- nothing else is asked
+and_done : (r : Result ⊤ Truncated) → result_and r (Ok tt) ≡ r
+and_done (Ok x) = refl
+and_done (Err t) = refl
+
+-- a demand by another test, place and count, before what else is asked
+wants_by : (limit a b n m : ℕ) (p q : Bool) (rest : Result ⊤ Truncated) → p ≡ q → (p ≡ true → a ≡ b) → (p ≡ true → n ≡ m)
+    → wants limit p a n rest ≡ result_and (wants limit q b m (Ok tt)) rest
 unfolding wants
-wants_by limit a b n m true true rest rest' e f g r = rw (f refl, g refl, r)
-wants_by limit a b n m true false rest rest' e f g r = absurd (true≢false e)
-wants_by limit a b n m false true rest rest' e f g r = absurd (false≢true e)
-wants_by limit a b n m false false rest rest' e f g r = r
+wants_by limit a b n m true true rest e f g = rw (f refl, g refl) (go (ltb limit (b + m)))
+  where
+    go : (t : Bool) → cond {A = Result ⊤ Truncated} t (Err (cut (limit - b) m)) rest ≡ result_and (cond {A = Result ⊤ Truncated} t (Err (cut (limit - b) m)) (Ok tt)) rest
+    go true = refl
+    go false = refl
+wants_by limit a b n m true false rest e f g = absurd (true≢false e)
+wants_by limit a b n m false true rest e f g = absurd (false≢true e)
+wants_by limit a b n m false false rest e f g = refl
 
 pub no_wants : (limit a n : ℕ) (p : Bool) (rest : Result ⊤ Truncated) → p ≡ false → wants limit p a n rest ≡ rest
 unfolding wants
@@ -90,31 +114,27 @@ module _ (s : List ℕ) (h : Bytes s) where
           byte_of (offset table_2_6 s "private_data_byte") (p.private_length + 1) (fields.private_bytes s on ∙ rw (at.private on) (omega arith))
 
       pub room_by : room_of s
-          ≡ cond (eqb (f / 16 % 2) 1 && ltb (length s) (2 + 6)) (Err (cut (length s - 2) 6))
-          (cond (eqb (f / 8 % 2) 1 && ltb (length s) (p.opcr + 6)) (Err (cut (length s - p.opcr) 6))
-          (cond (eqb (f / 4 % 2) 1 && ltb (length s) (p.splice_countdown + 1)) (Err (cut (length s - p.splice_countdown) 1))
-          (data_room s)))
-      unfolding room_of
+          ≡ result_and (wants (length s) (eqb (f / 16 % 2) 1) 2 6 (Ok tt))
+          (result_and (wants (length s) (eqb (f / 8 % 2) 1) p.opcr 6 (Ok tt))
+          (result_and (wants (length s) (eqb (f / 4 % 2) 1) p.splice_countdown 1 (Ok tt))
+          (result_and (wants (length s) (eqb (f / 2 % 2) 1) p.private_length 1 (Ok tt))
+          (result_and (wants (length s) (eqb (f / 2 % 2) 1) (p.private_length + 1) (get_or s p.private_length 0) (Ok tt))
+          (extension_room s)))))
+      unfolding room_of data_room
       room_by =
-          wants_by (length s) (place s "program_clock_reference_base") 2 6 6 (is_set s "PCR_flag") (eqb (f / 16 % 2) 1) _ _ pcr_on
-          (λ on. byte_of (offset table_2_6 s "program_clock_reference_base") 2 (fields.at_pcr s has_flags_lem h on)) (λ on. refl)
-          (wants_by (length s) (place s "original_program_clock_reference_base") p.opcr 6 6 (is_set s "OPCR_flag") (eqb (f / 8 % 2) 1) _ _ opcr_on
-          (λ on. byte_of (offset table_2_6 s "original_program_clock_reference_base") p.opcr (at.opcr on)) (λ on. refl)
-          (wants_by (length s) (place s "splice_countdown") p.splice_countdown 1 1 (is_set s "splicing_point_flag") (eqb (f / 4 % 2) 1) _ _
-          countdown_on (λ on. byte_of (offset table_2_6 s "splice_countdown") p.splice_countdown (at.splice on)) (λ on. refl) refl))
-
-      pub data_room_by : data_room s
-          ≡ cond (eqb (f / 2 % 2) 1 && ltb (length s) (p.private_length + 1)) (Err (cut (length s - p.private_length) 1))
-          (cond (eqb (f / 2 % 2) 1 && ltb (length s) (p.private_length + 1 + get_or s p.private_length 0))
-          (Err (cut (length s - (p.private_length + 1)) (get_or s p.private_length 0)))
-          (extension_room s))
-      unfolding data_room
-      data_room_by =
-          wants_by (length s) (place s "transport_private_data_length") p.private_length 1 1 (is_set s "transport_private_data_flag")
-          (eqb (f / 2 % 2) 1) _ _ private_on
-          (λ on. byte_of (offset table_2_6 s "transport_private_data_length") p.private_length (at.private on)) (λ on. refl)
-          (wants_by (length s) (place s "private_data_byte") (p.private_length + 1) (read s "transport_private_data_length")
-          (get_or s p.private_length 0) (is_set s "transport_private_data_flag") (eqb (f / 2 % 2) 1) _ _ private_on private_start private_count refl)
+          rw (
+            wants_by (length s) (place s "program_clock_reference_base") 2 6 6 (is_set s "PCR_flag") (eqb (f / 16 % 2) 1) _ pcr_on
+                (λ on. byte_of (offset table_2_6 s "program_clock_reference_base") 2 (fields.at_pcr s has_flags_lem h on)) (λ on. refl),
+            wants_by (length s) (place s "original_program_clock_reference_base") p.opcr 6 6 (is_set s "OPCR_flag") (eqb (f / 8 % 2) 1) _ opcr_on
+                (λ on. byte_of (offset table_2_6 s "original_program_clock_reference_base") p.opcr (at.opcr on)) (λ on. refl),
+            wants_by (length s) (place s "splice_countdown") p.splice_countdown 1 1 (is_set s "splicing_point_flag") (eqb (f / 4 % 2) 1) _
+                countdown_on (λ on. byte_of (offset table_2_6 s "splice_countdown") p.splice_countdown (at.splice on)) (λ on. refl),
+            wants_by (length s) (place s "transport_private_data_length") p.private_length 1 1 (is_set s "transport_private_data_flag")
+                (eqb (f / 2 % 2) 1) _ private_on
+                (λ on. byte_of (offset table_2_6 s "transport_private_data_length") p.private_length (at.private on)) (λ on. refl),
+            wants_by (length s) (place s "private_data_byte") (p.private_length + 1) (read s "transport_private_data_length")
+                (get_or s p.private_length 0) (is_set s "transport_private_data_flag") (eqb (f / 2 % 2) 1) _ private_on private_start private_count,
+          )
 
       clock : (b e o a : ℕ) → b ≡ bits s o 33 → e ≡ bits s (o + 39) 9 → o ≡ 8 * a
           → ◌≡◌ {A = Option ClockReference} (Some (record { base = b; extension = e })) (Some (clock_at s a))
@@ -191,14 +211,15 @@ module _ (s : List ℕ) (h : Bytes s) where
     end_is = ap₂ ◌+◌ flags_start count_read
 
     pub extension_room_by : extension_room s
-        ≡ cond (ltb (length s) (d + 1)) (Err (cut (length s - d) 1))
-        (cond (ltb (length s) (d + 1 + count)) (Err (cut (length s - (d + 1)) count)) (extension_fields_room s))
+        ≡ result_and (wants (length s) true d 1 (Ok tt)) (result_and (wants (length s) true (d + 1) count (Ok tt)) (extension_fields_room s))
     unfolding extension_room
     extension_room_by =
-        wants_by (length s) (place s "adaptation_field_extension_length") d 1 1 (is_set s "adaptation_field_extension_flag") true _ _ x.set
-        (λ on. byte_of (offset table_2_6 s "adaptation_field_extension_length") d x.place) (λ on. refl)
-        (wants_by (length s) (place s "ltw_flag") (d + 1) (read s "adaptation_field_extension_length") count
-        (is_set s "adaptation_field_extension_flag") true _ _ x.set (λ on. flags_start) (λ on. count_read) refl)
+        rw (
+          wants_by (length s) (place s "adaptation_field_extension_length") d 1 1 (is_set s "adaptation_field_extension_flag") true _ x.set
+              (λ on. byte_of (offset table_2_6 s "adaptation_field_extension_length") d x.place) (λ on. refl),
+          wants_by (length s) (place s "ltw_flag") (d + 1) (read s "adaptation_field_extension_length") count
+              (is_set s "adaptation_field_extension_flag") true _ x.set (λ on. flags_start) (λ on. count_read),
+        )
 
     -- one of length 0 has no flags
     unflagged : count ≡ 0 → (n : String) → extended s n ≡ false
@@ -245,19 +266,24 @@ module _ (s : List ℕ) (h : Bytes s) where
         at_splice_lem = rw (at_rate_lem, rate_on, splice-is)
 
         pub extension_fields_room_by : (end : ℕ) → end ≡ d + 1 + count → extension_fields_room s
-            ≡ cond (eqb (g / 128 % 2) 1 && ltb end (d + 2 + 2)) (Err (cut (end - (d + 2)) 2))
-            (cond (eqb (g / 64 % 2) 1 && ltb end (rate + 3)) (Err (cut (end - rate) 3))
-            (cond (eqb (g / 32 % 2) 1 && ltb end (splice + 5)) (Err (cut (end - splice) 5)) (Ok tt)))
+            ≡ result_and (wants end (eqb (g / 128 % 2) 1) (d + 2) 2 (Ok tt))
+            (result_and (wants end (eqb (g / 64 % 2) 1) rate 3 (Ok tt)) (wants end (eqb (g / 32 % 2) 1) splice 5 (Ok tt)))
         unfolding extension_fields_room
         extension_fields_room_by end e =
-            rw (end_is, ← e, extended_is "ltw_flag", extended_is "piecewise_rate_flag", extended_is "seamless_splice_flag")
-            (wants_by end (place s "ltw_valid_flag") (d + 2) 2 2 (is_set s "ltw_flag") (eqb (g / 128 % 2) 1) _ _ ltw_on
-            (λ on. byte_of (offset table_2_6 s "ltw_valid_flag") (d + 2) (fields.ltw_offset s x.set d x.place on)) (λ on. refl)
-            (wants_by end (place s "piecewise_rate") rate 3 3 (is_set s "piecewise_rate_flag") (eqb (g / 64 % 2) 1) _ _ rate_on
-            (λ on. inside (offset table_2_6 s "piecewise_rate") rate (fields.rate_offset s x.set d x.place on ∙ rw at_rate_lem)) (λ on. refl)
-            (wants_by end (place s "splice_type") splice 5 5 (is_set s "seamless_splice_flag") (eqb (g / 32 % 2) 1) _ _ splice_on
-            (λ on. byte_of (offset table_2_6 s "splice_type") splice (fields.splice_offset s x.set d x.place on ∙ rw at_splice_lem)) (λ on. refl)
-            refl)))
+            rw (
+              end_is,
+              ← e,
+              extended_is "ltw_flag",
+              extended_is "piecewise_rate_flag",
+              extended_is "seamless_splice_flag",
+              wants_by end (place s "ltw_valid_flag") (d + 2) 2 2 (is_set s "ltw_flag") (eqb (g / 128 % 2) 1) _ ltw_on
+                  (λ on. byte_of (offset table_2_6 s "ltw_valid_flag") (d + 2) (fields.ltw_offset s x.set d x.place on)) (λ on. refl),
+              wants_by end (place s "piecewise_rate") rate 3 3 (is_set s "piecewise_rate_flag") (eqb (g / 64 % 2) 1) _ rate_on
+                  (λ on. inside (offset table_2_6 s "piecewise_rate") rate (fields.rate_offset s x.set d x.place on ∙ rw at_rate_lem)) (λ on. refl),
+              wants_by end (place s "splice_type") splice 5 5 (is_set s "seamless_splice_flag") (eqb (g / 32 % 2) 1) _ splice_on
+                  (λ on. byte_of (offset table_2_6 s "splice_type") splice (fields.splice_offset s x.set d x.place on ∙ rw at_splice_lem)) (λ on. refl),
+              and_done (wants end (eqb (g / 32 % 2) 1) splice 5 (Ok tt)),
+            )
           where
             inside : (o a : ℕ) → o ≡ 8 * a + 2 → o / 8 ≡ a
             inside o a e = omega arith
@@ -338,21 +364,25 @@ module _ (s : List ℕ) (h : Bytes s) where
 
   -- a field with no part but a PCR, and room for that
   pub pcr_room : (f : ℕ) → Flagged s f → f % 16 ≡ 0 → 8 ≤ length s → room_of s ≡ Ok tt
-  unfolding room_of data_room
+  unfolding room_of data_room wants
   pcr_room f k z l =
-      wants_by (length s) (place s "program_clock_reference_base") 2 6 6 (is_set s "PCR_flag") (is_set s "PCR_flag") _ _ refl
-      (λ on. byte_of (offset table_2_6 s "program_clock_reference_base") 2 (fields.at_pcr s (has_flags_lem f k) h on)) (λ on. refl)
-      (no_wants (length s) _ 6 _ _ (opcr_on f k ∙ ne_eqb (f / 8 % 2) 1 (λ e. omega arith))
-      ∙ (no_wants (length s) _ 1 _ _ (countdown_on f k ∙ ne_eqb (f / 4 % 2) 1 (λ e. omega arith))
-      ∙ (no_wants (length s) _ 1 _ _ none ∙ (no_wants (length s) _ _ _ _ none ∙ no_extension_room (extension_on f k ∙ ne_eqb (f % 2) 1 (λ e. omega arith))))))
-      ∙ rw (le-ltb (length s) 8 l) (either (is_set s "PCR_flag"))
+      rw (
+        wants_by (length s) (place s "program_clock_reference_base") 2 6 6 (is_set s "PCR_flag") (is_set s "PCR_flag") _ refl
+            (λ on. byte_of (offset table_2_6 s "program_clock_reference_base") 2 (fields.at_pcr s (has_flags_lem f k) h on)) (λ on. refl),
+        no_wants (length s) _ 6 _ _ (opcr_on f k ∙ ne_eqb (f / 8 % 2) 1 (λ e. omega arith)),
+        no_wants (length s) _ 1 _ _ (countdown_on f k ∙ ne_eqb (f / 4 % 2) 1 (λ e. omega arith)),
+        no_wants (length s) _ 1 _ _ none,
+        no_wants (length s) _ _ _ _ none,
+        no_extension_room (extension_on f k ∙ ne_eqb (f % 2) 1 (λ e. omega arith)),
+        enough (is_set s "PCR_flag"),
+      )
     where
       none : is_set s "transport_private_data_flag" ≡ false
       none = private_on f k ∙ ne_eqb (f / 2 % 2) 1 (λ e. omega arith)
 
-      either : (q : Bool) → cond {A = Result ⊤ Truncated} (q && false) (Err (cut (length s - 2) 6)) (Ok tt) ≡ Ok tt
-      either true = refl
-      either false = refl
+      enough : (q : Bool) → wants (length s) q 2 6 (Ok tt) ≡ Ok tt
+      enough true = rw (le-ltb (length s) 8 l)
+      enough false = refl
 
   -- the length byte
   length_is : read s "adaptation_field_length" ≡ get_or s 0 0

@@ -2,13 +2,15 @@
 -- Assumes nothing.
 use mathlib.Core.Path.{◌≡◌, sym, ◌∙◌}
 use mathlib.Core.Bool.{cond}
+use mathlib.Core.Logic.{◌⊎◌, inl, inr}
 use mathlib.Core.List.{List, []}
-use Prim.Native.Nat.{ℕ, ◌+◌, ◌-◌, ◌*◌, ◌/◌, ◌<◌, ◌≤◌}
+use Prim.Native.Nat.{ℕ, ◌+◌, ◌-◌, ◌*◌, ◌/◌, ◌<◌, ◌≤◌, min}
 use native.Mathlib.Nat.{add-sub_cancel_left, mul-le-mul_right, div-mul-le_self, div-lt_iff_lt-mul}
 use native.Mathlib.Omega.{arith}
 use lib.Dec.{leb}
 use lib.ListN.{length, take, drop, length-drop, drop_of_length-le}
 use lib.Seq.{take_all, take-nil, drop-length}
+use Rattle.std.proofs.lemmas.Bool.{cases_lt}
 use borrow.Author.Tests.{le-leb, lt-leb}
 
 module _ (l : List ℕ) where
@@ -35,6 +37,16 @@ module _ (l : List ℕ) where
   pub window_fits : (from : ℕ) → from + 188 ≤ length l
       → take (from + 188 - from) (drop from l) ≡ cond (leb (from + 188) (length l)) (take 188 (drop from l)) []
   window_fits from h = part_whole from 188 ∙ sym (rw (le-leb (from + 188) (length l) h))
+
+-- a place that is cut at m, which no byte is behind
+pub drop_capped : (l : List ℕ) (a b m : ℕ) → a ≡ min b m → length l ≤ m → drop a l ≡ drop b l
+drop_capped l a b m e h = go (cases_lt m b)
+  where
+    go : (m < b) ⊎ (b ≤ m) → drop a l ≡ drop b l
+    go (inl g) = drop_of_length-le l (omega arith) ∙ sym (drop_of_length-le l (omega arith))
+    go (inr g) =
+        let p : a ≡ b = omega arith in
+        rw p
 
 -- whole packets before a place
 pub within_length : (n size k : ℕ) → k ≤ n / size → k * size ≤ n

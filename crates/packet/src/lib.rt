@@ -2,9 +2,9 @@
 // Contracts cite the fields of tables 2-2 and 2-6 by name; only the code reads bytes.
 #![tactic(auto)]
 
-ghost use Rattle.std.specs.Prelude.{◌≡◌, cond, true, false, ◌&&◌, [], ◌+◌, ◌-◌, ◌*◌, ◌/◌, ◌%◌, ◌^◌, ◌≤◌, ◌<◌, min, eqb, ltb, leb, length, get_or, take, drop, Option, Some, None};
+ghost use Rattle.std.specs.Prelude.{◌≡◌, cond, true, false, ◌&&◌, [], ◌+◌, ◌-◌, ◌*◌, ◌/◌, ◌%◌, ◌^◌, ◌≤◌, ◌<◌, min, eqb, ltb, leb, length, get_or, take, drop, Option, Some, None, Ok};
 ghost use Rattle.syntax.specs.Bits.{bits};
-ghost use Rattle.packet.specs.AdaptationField.{field_of, field_room, is_set, room_of, data_room, extension_room, extension_fields_room, adaptation_field_of, extension_of, tcimsbf8};
+ghost use Rattle.packet.specs.AdaptationField.{field_of, field_room, is_set, wants, room_of, extension_room, adaptation_field_of, extension_of, tcimsbf8};
 ghost use Rattle.packet.specs.Places.{Flagged, Placed, Extended, clock_at, private_data_at, ltw_at, splice_at};
 ghost use Rattle.packet.specs.Packet.{parse_of, packet_of, payload_of, private_data_of};
 ghost use Rattle.packet.specs.Layout.{on_grid, layout_of, window_of};
@@ -103,67 +103,24 @@ struct Places {
     extension: usize,
 }
 
-fn wide16(x: u8) -> u16
-    ensures { result ≡ x }
-{
-    x as u16
-}
-
-fn wide32(x: u8) -> u32
-    ensures { result ≡ x }
-{
-    x as u32
-}
-
-fn wide64(x: u8) -> u64
-    ensures { result ≡ x }
-{
-    x as u64
-}
-
-fn wide_size(x: u8) -> usize
-    ensures { result ≡ x }
-{
-    x as usize
-}
-
-fn lesser(a: usize, b: usize) -> usize
-    ensures { result ≡ min a b }
-{
-    if a <= b { a } else { b }
-}
-
-fn beyond(a: usize, b: usize) -> usize
-    ensures { result ≡ a - b }
-{
-    if a <= b { 0 } else { a - b }
-}
-
 fn byte_or_zero(raw: &[u8], at: usize) -> u8
     ensures { result ≡ get_or raw.now at 0 }
 {
-    if at < raw.len() { raw[at] } else { 0 }
+    raw.get(at).copied().unwrap_or(0)
 }
 
-fn length_at(raw: &[u8], at: usize) -> usize
-    ensures { (result ≡ get_or raw.now at 0) × (result < 256) }
-{
-    if at < raw.len() {
-        wide_size(raw[at])
-    } else {
-        0
-    }
-}
-
-// A field that is there wants n bytes from a place on, and the limit comes sooner.
-fn lacks(on: bool, limit: usize, at: usize, n: usize) -> bool
+// A field of n bytes from a place on, if it is there, ends within the limit.
+fn ends_within(on: bool, limit: usize, at: usize, n: usize) -> Result<(), Truncated>
     requires { (at < 1000) × (n < 1000) }
-    ensures { result ≡ (on && ltb limit (at + n)) }
+    ensures { result ≡ wants limit on at n (Ok tt) }
 {
-    if on {
-        return limit < at + n;
+    if on && limit < at + n {
+        return Err(Truncated {
+            have: limit.saturating_sub(at),
+            need: n,
+        });
     }
-    false
+    Ok(())
 }
 
 // The place behind a field of n bytes, if it is there.
@@ -171,142 +128,94 @@ fn past(on: bool, at: usize, n: usize) -> usize
     requires { (at < 1000) × (n < 1000) }
     ensures { (result ≡ cond on (at + n) at) × (result ≤ at + n) }
 {
-    if on {
-        return at + n;
-    }
-    at
+    if on { at + n } else { at }
 }
 
 fn clock_base(p0: u8, p1: u8, p2: u8, p3: u8, p4: u8) -> u64
     ensures { result ≡ p0 * 0x200_0000 + p1 * 0x2_0000 + p2 * 0x200 + p3 * 2 + p4 / 128 }
 {
-    wide64(p0) * 0x200_0000
-        + wide64(p1) * 0x2_0000
-        + wide64(p2) * 0x200
-        + wide64(p3) * 2
-        + wide64(p4 / 128)
+    u64::from(p0) * 0x200_0000
+        + u64::from(p1) * 0x2_0000
+        + u64::from(p2) * 0x200
+        + u64::from(p3) * 2
+        + u64::from(p4 / 128)
 }
 
 fn clock_extension(p4: u8, p5: u8) -> u16
     ensures { result ≡ p4 % 2 * 256 + p5 }
 {
-    wide16(p4 % 2) * 256 + wide16(p5)
+    u16::from(p4 % 2) * 256 + u16::from(p5)
 }
 
-fn clock_field(raw: &[u8], at: usize, on: bool) -> Option<ClockReference>
+fn clock_at(raw: &[u8], at: usize) -> ClockReference
     requires { at < 1000 }
-    ensures { result ≡ cond on (Some (clock_at raw.now at)) None }
+    ensures { result ≡ clock_at raw.now at }
 {
-    if on {
-        let p0 = byte_or_zero(raw, at);
-        let p1 = byte_or_zero(raw, at + 1);
-        let p2 = byte_or_zero(raw, at + 2);
-        let p3 = byte_or_zero(raw, at + 3);
-        let p4 = byte_or_zero(raw, at + 4);
-        let p5 = byte_or_zero(raw, at + 5);
-        return Some(ClockReference {
-            base: clock_base(p0, p1, p2, p3, p4),
-            extension: clock_extension(p4, p5),
-        });
+    let p4 = byte_or_zero(raw, at + 4);
+    ClockReference {
+        base: clock_base(
+            byte_or_zero(raw, at),
+            byte_or_zero(raw, at + 1),
+            byte_or_zero(raw, at + 2),
+            byte_or_zero(raw, at + 3),
+            p4,
+        ),
+        extension: clock_extension(p4, byte_or_zero(raw, at + 5)),
     }
-    None
 }
 
 // Eight bits in two's complement.
-fn signed(b: u8) -> i8
-    ensures { result ≡ tcimsbf8 b }
+fn countdown_at(raw: &[u8], at: usize) -> i8
+    ensures { result ≡ tcimsbf8 (bits raw.now (8 * at) 8) }
 {
-    if b < 128 {
-        return b as i8;
-    }
-    let k = 255 - b;
-    -1 - (k as i8)
+    byte_or_zero(raw, at).cast_signed()
 }
 
-fn countdown_field(raw: &[u8], at: usize, on: bool) -> Option<i8>
-    ensures { result ≡ cond on (Some (tcimsbf8 (bits raw.now (8 * at) 8))) None }
-{
-    if on {
-        let b = byte_or_zero(raw, at);
-        return Some(signed(b));
-    }
-    None
-}
-
-fn private_data_field(raw: &[u8], at: usize, on: bool) -> Option<PrivateData>
+fn private_data_at(raw: &[u8], at: usize) -> PrivateData
     requires { at < 1000 }
-    ensures { result ≡ cond on (Some (private_data_at raw.now at)) None }
+    ensures { result ≡ private_data_at raw.now at }
 {
-    if on {
-        return Some(PrivateData {
-            start: at + 1,
-            len: length_at(raw, at),
-        });
+    PrivateData {
+        start: at + 1,
+        len: usize::from(byte_or_zero(raw, at)),
     }
-    None
 }
 
-fn ltw_field(raw: &[u8], at: usize, on: bool) -> Option<Ltw>
+fn ltw_at(raw: &[u8], at: usize) -> Ltw
     requires { at < 1000 }
-    ensures { result ≡ cond on (Some (ltw_at raw.now at)) None }
+    ensures { result ≡ ltw_at raw.now at }
 {
-    if on {
-        let b0 = byte_or_zero(raw, at);
-        let b1 = byte_or_zero(raw, at + 1);
-        return Some(Ltw {
-            valid: b0 / 128 == 1,
-            offset: wide16(b0 % 128) * 256 + wide16(b1),
-        });
+    let b0 = byte_or_zero(raw, at);
+    Ltw {
+        valid: b0 / 128 == 1,
+        offset: u16::from(b0 % 128) * 256 + u16::from(byte_or_zero(raw, at + 1)),
     }
-    None
 }
 
-fn rate_of(b0: u8, b1: u8, b2: u8) -> u32
-    ensures { result ≡ b0 % 64 * 65536 + b1 * 256 + b2 }
-{
-    wide32(b0 % 64) * 65536 + wide32(b1) * 256 + wide32(b2)
-}
-
-fn rate_field(raw: &[u8], at: usize, on: bool) -> Option<u32>
+fn rate_at(raw: &[u8], at: usize) -> u32
     requires { at < 1000 }
-    ensures { result ≡ cond on (Some (bits raw.now (8 * at + 2) 22)) None }
+    ensures { result ≡ bits raw.now (8 * at + 2) 22 }
 {
-    if on {
-        let b0 = byte_or_zero(raw, at);
-        let b1 = byte_or_zero(raw, at + 1);
-        let b2 = byte_or_zero(raw, at + 2);
-        return Some(rate_of(b0, b1, b2));
-    }
-    None
+    u32::from(byte_or_zero(raw, at) % 64) * 65536
+        + u32::from(byte_or_zero(raw, at + 1)) * 256
+        + u32::from(byte_or_zero(raw, at + 2))
 }
 
-// Three parts of a 33-bit stamp, each before a marker bit.
-fn dts_of(b0: u8, b1: u8, b2: u8, b3: u8, b4: u8) -> u64
-    ensures { result ≡ b0 / 2 % 8 * 0x4000_0000 + b1 * 0x40_0000 + b2 / 2 * 0x8000 + b3 * 0x80 + b4 / 2 }
-{
-    (wide64(b0) / 2 % 8) * 0x4000_0000
-        + wide64(b1) * 0x40_0000
-        + wide64(b2) / 2 * 0x8000
-        + wide64(b3) * 0x80
-        + wide64(b4) / 2
-}
-
-fn splice_field(raw: &[u8], at: usize, on: bool) -> Option<SeamlessSplice>
+fn splice_at(raw: &[u8], at: usize) -> SeamlessSplice
     requires { at < 1000 }
-    ensures { result ≡ cond on (Some (splice_at raw.now at)) None }
+    ensures { result ≡ splice_at raw.now at }
 {
-    if on {
-        let b0 = byte_or_zero(raw, at);
-        let b1 = byte_or_zero(raw, at + 1);
-        let b2 = byte_or_zero(raw, at + 2);
-        let b3 = byte_or_zero(raw, at + 3);
-        let b4 = byte_or_zero(raw, at + 4);
-        return Some(SeamlessSplice {
-            splice_type: b0 / 16,
-            dts_next_au: dts_of(b0, b1, b2, b3, b4),
-        });
+    let b0 = byte_or_zero(raw, at);
+    SeamlessSplice {
+        splice_type: b0 / 16,
+        dts_next_au: pes::read_ts33([
+            b0,
+            byte_or_zero(raw, at + 1),
+            byte_or_zero(raw, at + 2),
+            byte_or_zero(raw, at + 3),
+            byte_or_zero(raw, at + 4),
+        ]),
     }
-    None
 }
 
 // Where the fields behind the flags f stand: each begins where the one before it ends.
@@ -317,7 +226,7 @@ fn places_of(raw: &[u8], f: u8) -> Places
     let opcr = past(f / 16 % 2 == 1, 2, 6);
     let splice_countdown = past(f / 8 % 2 == 1, opcr, 6);
     let private_length = past(f / 4 % 2 == 1, splice_countdown, 1);
-    let n = length_at(raw, private_length);
+    let n = usize::from(byte_or_zero(raw, private_length));
     let extension = past(f / 2 % 2 == 1, private_length, 1 + n);
     Places {
         opcr,
@@ -327,84 +236,26 @@ fn places_of(raw: &[u8], f: u8) -> Places
     }
 }
 
-// Whether the fields of an extension end within it: its flags stand at `at + 1`, and it ends at `end`.
-fn extension_fields_room(raw: &[u8], at: usize, end: usize) -> Result<(), Truncated>
-    requires extended { Extended raw.now at }
-    requires nonzero { (0 < get_or raw.now at 0) × (end ≡ at + 1 + get_or raw.now at 0) }
-    ensures { result ≡ extension_fields_room raw.now }
-{
-    let f = byte_or_zero(raw, at + 1);
-    let ltw = at + 2;
-    if lacks(f / 128 % 2 == 1, end, ltw, 2) {
-        return Err(Truncated {
-            have: beyond(end, ltw),
-            need: 2,
-        });
-    }
-    let rate = past(f / 128 % 2 == 1, ltw, 2);
-    if lacks(f / 64 % 2 == 1, end, rate, 3) {
-        return Err(Truncated {
-            have: beyond(end, rate),
-            need: 3,
-        });
-    }
-    let splice = past(f / 64 % 2 == 1, rate, 3);
-    if lacks(f / 32 % 2 == 1, end, splice, 5) {
-        return Err(Truncated {
-            have: beyond(end, splice),
-            need: 5,
-        });
-    }
-    Ok(())
-}
-
+// Whether the extension whose length byte stands at `at` ends within the field, and the parts that it flags within it.
+// Left as a call it costs a packet with an extension 19 instructions more in `header::read`.
+#[inline(always)]
 fn extension_room(raw: &[u8], at: usize) -> Result<(), Truncated>
     requires { Extended raw.now at }
     ensures { result ≡ extension_room raw.now }
 {
-    if raw.len() < at + 1 {
-        return Err(Truncated {
-            have: beyond(raw.len(), at),
-            need: 1,
-        });
-    }
-    let n = length_at(raw, at);
-    if raw.len() < at + 1 + n {
-        return Err(Truncated {
-            have: beyond(raw.len(), at + 1),
-            need: n,
-        });
-    }
+    ends_within(true, raw.len(), at, 1)?;
+    let n = usize::from(byte_or_zero(raw, at));
+    ends_within(true, raw.len(), at + 1, n)?;
     if n == 0 {
         return Ok(());
     }
-    extension_fields_room(raw, at, at + 1 + n)
-}
-
-// Whether the private data and the extension end within the field.
-fn data_room(raw: &[u8], f: u8, p: Places) -> Result<(), Truncated>
-    requires flagged { Flagged raw.now f }
-    requires placed { Placed raw.now p }
-    ensures { result ≡ data_room raw.now }
-{
-    let at = p.private_length;
-    if lacks(f / 2 % 2 == 1, raw.len(), at, 1) {
-        return Err(Truncated {
-            have: beyond(raw.len(), at),
-            need: 1,
-        });
-    }
-    let n = length_at(raw, at);
-    if lacks(f / 2 % 2 == 1, raw.len(), at + 1, n) {
-        return Err(Truncated {
-            have: beyond(raw.len(), at + 1),
-            need: n,
-        });
-    }
-    if f % 2 == 1 {
-        return extension_room(raw, p.extension);
-    }
-    Ok(())
+    let end = at + 1 + n;
+    let f = byte_or_zero(raw, at + 1);
+    ends_within(f / 128 % 2 == 1, end, at + 2, 2)?;
+    let rate = past(f / 128 % 2 == 1, at + 2, 2);
+    ends_within(f / 64 % 2 == 1, end, rate, 3)?;
+    let splice = past(f / 64 % 2 == 1, rate, 3);
+    ends_within(f / 32 % 2 == 1, end, splice, 5)
 }
 
 // Whether every field behind the flags f ends within the adaptation field.
@@ -413,27 +264,17 @@ fn field_room(raw: &[u8], f: u8, p: Places) -> Result<(), Truncated>
     requires placed { Placed raw.now p }
     ensures { result ≡ room_of raw.now }
 {
-    if lacks(f / 16 % 2 == 1, raw.len(), 2, 6) {
-        return Err(Truncated {
-            have: beyond(raw.len(), 2),
-            need: 6,
-        });
+    ends_within(f / 16 % 2 == 1, raw.len(), 2, 6)?;
+    ends_within(f / 8 % 2 == 1, raw.len(), p.opcr, 6)?;
+    ends_within(f / 4 % 2 == 1, raw.len(), p.splice_countdown, 1)?;
+    let has_private_data = f / 2 % 2 == 1;
+    ends_within(has_private_data, raw.len(), p.private_length, 1)?;
+    let n = usize::from(byte_or_zero(raw, p.private_length));
+    ends_within(has_private_data, raw.len(), p.private_length + 1, n)?;
+    if f % 2 == 1 {
+        return extension_room(raw, p.extension);
     }
-    let opcr = p.opcr;
-    if lacks(f / 8 % 2 == 1, raw.len(), opcr, 6) {
-        return Err(Truncated {
-            have: beyond(raw.len(), opcr),
-            need: 6,
-        });
-    }
-    let splice = p.splice_countdown;
-    if lacks(f / 4 % 2 == 1, raw.len(), splice, 1) {
-        return Err(Truncated {
-            have: beyond(raw.len(), splice),
-            need: 1,
-        });
-    }
-    data_room(raw, f, p)
+    Ok(())
 }
 
 // The extension whose length byte stands at `at`; one of length 0 has no flags.
@@ -456,21 +297,10 @@ fn extension_at(raw: &[u8], at: usize) -> AdaptationFieldExtension
     let splice = past(f / 64 % 2 == 1, rate, 3);
     AdaptationFieldExtension {
         length,
-        ltw: ltw_field(raw, ltw, f / 128 % 2 == 1),
-        piecewise_rate: rate_field(raw, rate, f / 64 % 2 == 1),
-        seamless_splice: splice_field(raw, splice, f / 32 % 2 == 1),
+        ltw: (f / 128 % 2 == 1).then(|| ltw_at(raw, ltw)),
+        piecewise_rate: (f / 64 % 2 == 1).then(|| rate_at(raw, rate)),
+        seamless_splice: (f / 32 % 2 == 1).then(|| splice_at(raw, splice)),
     }
-}
-
-fn extension_field(raw: &[u8], at: usize, on: bool) -> Option<AdaptationFieldExtension>
-    requires on_value { on ≡ is_set raw.now "adaptation_field_extension_flag" }
-    requires extended { on ≡ true → Extended raw.now at }
-    ensures { result ≡ cond (is_set raw.now "adaptation_field_extension_flag") (Some (extension_of raw.now)) None }
-{
-    if on {
-        return Some(extension_at(raw, at));
-    }
-    None
 }
 
 // The adaptation field with the flags f.
@@ -479,16 +309,21 @@ fn flagged_field(raw: &[u8], f: u8, p: Places) -> AdaptationField
     requires placed { Placed raw.now p }
     ensures { result ≡ adaptation_field_of raw.now }
 {
+    let adaptation_field_extension = if f % 2 == 1 {
+        Some(extension_at(raw, p.extension))
+    } else {
+        None
+    };
     AdaptationField {
         length: byte_or_zero(raw, 0),
         discontinuity_indicator: f / 128 % 2 == 1,
         random_access_indicator: f / 64 % 2 == 1,
         elementary_stream_priority_indicator: f / 32 % 2 == 1,
-        pcr: clock_field(raw, 2, f / 16 % 2 == 1),
-        opcr: clock_field(raw, p.opcr, f / 8 % 2 == 1),
-        splice_countdown: countdown_field(raw, p.splice_countdown, f / 4 % 2 == 1),
-        transport_private_data: private_data_field(raw, p.private_length, f / 2 % 2 == 1),
-        adaptation_field_extension: extension_field(raw, p.extension, f % 2 == 1),
+        pcr: (f / 16 % 2 == 1).then(|| clock_at(raw, 2)),
+        opcr: (f / 8 % 2 == 1).then(|| clock_at(raw, p.opcr)),
+        splice_countdown: (f / 4 % 2 == 1).then(|| countdown_at(raw, p.splice_countdown)),
+        transport_private_data: (f / 2 % 2 == 1).then(|| private_data_at(raw, p.private_length)),
+        adaptation_field_extension,
     }
 }
 
@@ -557,7 +392,7 @@ pub fn payload_start_of(b3: u8, from: usize) -> usize
 pub fn pid_of(b1: u8, b2: u8) -> u16
     ensures { result ≡ b1 % 32 * 256 + b2 }
 {
-    wide16(b1 % 32) * 256 + wide16(b2)
+    u16::from(b1 % 32) * 256 + u16::from(b2)
 }
 
 fn with_header(bytes: &[u8], f: Option<AdaptationField>, from: usize) -> TsPacket
@@ -595,7 +430,7 @@ impl TsPacket {
             return Err(TsError::BadSyncByte(sync));
         }
         if bytes[3] / 32 % 2 == 1 {
-            let total = wide_size(bytes[4]) + 1;
+            let total = usize::from(bytes[4]) + 1;
             let end = 4 + total;
             if 188 < end {
                 return Err(TsError::Truncated(Truncated {
@@ -630,7 +465,7 @@ fn part(bytes: &[u8], from: usize, n: usize) -> &[u8]
 pub fn payload(bytes: &[u8], start: usize) -> &[u8]
     ensures { result.now ≡ payload_of bytes.now start }
 {
-    part(bytes, start, beyond(188, start))
+    part(bytes, start, 188usize.saturating_sub(start))
 }
 
 // The private data of a packet, by the start and the length that its adaptation field has.
@@ -638,11 +473,7 @@ pub fn payload(bytes: &[u8], start: usize) -> &[u8]
 pub fn private_data(bytes: &[u8], start: usize, len: usize) -> &[u8]
     ensures { result.now ≡ private_data_of bytes.now start len }
 {
-    let n = bytes.len();
-    if n <= start {
-        return &bytes[n..n];
-    }
-    part(bytes, 4 + start, len)
+    part(bytes, start.saturating_add(4), len)
 }
 
 #[derive(Clone, Copy)]
@@ -677,15 +508,10 @@ fn on_grid(buf: &[u8], size: usize, off: usize) -> bool
     if whole < 2 {
         return false;
     }
-    let check = lesser(whole, 8);
-    let mut k = 0;
-    let mut at = off;
-    while k < check {
-        if buf[at] != 0x47 {
+    for k in 0..whole.min(8) {
+        if buf[k * size + off] != 0x47 {
             return false;
         }
-        k += 1;
-        at += size;
     }
     true
 }

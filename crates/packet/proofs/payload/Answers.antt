@@ -4,4 +4,4 @@ use Rattle.packet.proofs.payload.Goals as goal
 
 pub returns : goal.returns
 unfolding payload_of
-returns c = rw (← c.beyond.ensures) c.part.ensures
+returns c = rw (← c.saturating_sub.ensures) c.part.ensures

@@ -9,4 +9,4 @@ pub returns : goal.returns
 returns c =
     let s = c.args.raw.now in
     let h = of_slice s c.type_inv.raw in
-    placed s h c.args.f c.requires _ c.past-opcr.ensures.0 c.past-splice_countdown.ensures.0 c.past-private_length.ensures.0 (c.past-extension.ensures.0 ∙ rw c.length_at-n.ensures.0) c.past-opcr.ensures.1 (omega (arith, c.past-opcr.ensures.1, c.past-splice_countdown.ensures.1)) (omega (arith, c.past-opcr.ensures.1, c.past-splice_countdown.ensures.1, c.past-private_length.ensures.1)) (omega (arith, c.past-opcr.ensures.1, c.past-splice_countdown.ensures.1, c.past-private_length.ensures.1, c.length_at-n.ensures.1, c.past-extension.ensures.1))
+    placed s h c.args.f c.requires _ c.past-opcr.ensures.0 c.past-splice_countdown.ensures.0 c.past-private_length.ensures.0 (c.past-extension.ensures.0 ∙ rw (c.from-n.ensures, c.byte_or_zero.ensures)) c.past-opcr.ensures.1 (omega (arith, c.past-opcr.ensures.1, c.past-splice_countdown.ensures.1)) (omega (arith, c.past-opcr.ensures.1, c.past-splice_countdown.ensures.1, c.past-private_length.ensures.1)) (omega (arith, c.past-opcr.ensures.1, c.past-splice_countdown.ensures.1, c.past-private_length.ensures.1, c.past-extension.ensures.1))
