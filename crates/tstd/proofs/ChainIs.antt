@@ -11,7 +11,7 @@ use Rattle.branch.specs.declared.main_branch.Stepped.{Stepped as MainStepped}
 use Rattle.branch.specs.declared.video_branch.VideoModel.{VideoModel}
 use Rattle.branch.specs.declared.video_branch.VideoBranch.{VideoBranch}
 use Rattle.branch.specs.declared.video_branch.Stepped.{Stepped as VideoStepped}
-use Rattle.branch.specs.Queue.{SameOutside, three_at}
+use Rattle.branch.specs.Queue.{SameOutside, floats_at}
 use Rattle.branch.specs.InflowInWork.{run_of}
 use Rattle.branch.specs.MainBranch.{new_main, main_step}
 use Rattle.branch.specs.VideoStep.{new_video, video_step}
@@ -19,7 +19,7 @@ use Rattle.branch.specs.MainInWork.{runs_place, units_place, unit_of, main_of, B
 use Rattle.branch.specs.MainInWork as main-work
 use Rattle.branch.specs.VideoInWork.{mark_at, unit_at, flow_of, leak_of, video_of, VideoLies, chain_of, layout_of, rates_of}
 use Rattle.branch.specs.VideoInWork as video-work
-use Rattle.branch.proofs.Rings.{kept, lies_kept, three_local, outside_wider}
+use Rattle.branch.proofs.Rings.{kept, lies_kept, floats_local, outside_wider}
 use Rattle.branch.proofs.HeaderMarks.{mark_local}
 use Rattle.branch.proofs.MainSteps as main-laws
 use Rattle.branch.proofs.VideoSteps as video-laws
@@ -187,8 +187,8 @@ module _ {lo hi : ℕ} {w u : List Float} (o : SameOutside lo hi w u) where
   unfolding main_of
   main_kept p b l h =
       rw (
-        kept 3 (λ z i. run_of (three_at z i)) (three_local run_of) (runs_place p) b.inflow.runs l.runs o (⊎_elim (λ x. inl (omega arith)) (λ x. inr (omega arith)) h),
-        kept 3 (λ z i. unit_of (three_at z i)) (three_local unit_of) (units_place p) b.pending l.pending o (⊎_elim (λ x. inl (omega arith)) (λ x. inr (omega arith)) h),
+        kept 3 (λ z i. run_of (floats_at 3 z i)) (floats_local 3 run_of) (runs_place p) b.inflow.runs l.runs o (⊎_elim (λ x. inl (omega arith)) (λ x. inr (omega arith)) h),
+        kept 3 (λ z i. unit_of (floats_at 3 z i)) (floats_local 3 unit_of) (units_place p) b.pending l.pending o (⊎_elim (λ x. inl (omega arith)) (λ x. inr (omega arith)) h),
       )
 
   video_kept : (p : VideoModel) (v : VideoBranch) → VideoLies w (layout_of p) v → (p.base + 8 * p.depth ≤ lo) ⊎ (hi ≤ p.base) → chain_of u (layout_of p) v ≡ chain_of w (layout_of p) v
@@ -196,9 +196,9 @@ module _ {lo hi : ℕ} {w u : List Float} (o : SameOutside lo hi w u) where
   video_kept p v l h =
       let m = layout_of p in
       rw (
-        kept 3 (λ z i. run_of (three_at z i)) (three_local run_of) m.runs v.leak.mb_in.runs l.leak.runs o (⊎_elim (λ x. inl (omega arith)) (λ x. inr (omega arith)) h),
+        kept 3 (λ z i. run_of (floats_at 3 z i)) (floats_local 3 run_of) m.runs v.leak.mb_in.runs l.leak.runs o (⊎_elim (λ x. inl (omega arith)) (λ x. inr (omega arith)) h),
         kept 2 mark_at mark_local m.marks v.leak.flow.marks l.leak.marks o (⊎_elim (λ x. inl (omega arith)) (λ x. inr (omega arith)) h),
-        kept 3 (λ z i. unit_of (three_at z i)) (three_local unit_of) m.units v.pending l.pending o (⊎_elim (λ x. inl (omega arith)) (λ x. inr (omega arith)) h),
+        kept 3 (λ z i. unit_of (floats_at 3 z i)) (floats_local 3 unit_of) m.units v.pending l.pending o (⊎_elim (λ x. inl (omega arith)) (λ x. inr (omega arith)) h),
       )
 
   kept_by : (m : TStdBranch) (base depth k : ℕ) (b : MainBranch) (v : VideoBranch) (y : Branch) → BranchIs w m base depth k b v y → (base + 8 * depth ≤ lo) ⊎ (hi ≤ base)

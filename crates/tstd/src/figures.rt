@@ -14,6 +14,7 @@ use profile::model::TStdBranch;
 use report::TStdChainStats;
 
 // The peaks are whole bytes, toward zero; a branch without an elementary stream buffer has none there.
+#[tactic(auto, unfolding(crate::specs::Figures::row_by))]
 fn stream_row(stream: TStdStream, tb: FluidFifo, b: MainBranch, v: VideoBranch) -> TStdChainStats
     ensures { result ≡ stream_row stream tb b v }
 {

@@ -14,6 +14,7 @@ pub enum StreamModel {
     Video(VideoModel),
 }
 
+#[tactic(auto, unfolding(crate::specs::InWork::model_by))]
 pub(crate) fn stream_model(stream: TStdStream, base: usize, depth: usize) -> StreamModel
     ensures { result ≡ stream_model stream base depth }
 {
