@@ -65,6 +65,7 @@ started c =
 abbrev pub with_events : List Found → ℕ → List Event → List Found
 with_events fs i es = fs ++ map (found i) es
 
+-- (not a Result State ℕ: theorems and pass 2 tell of what is running and what is full, and the number is a PID)
 pub data Ran : Type 0 where
   running : State → Ran
   -- a push met a full queue of the chain of a PID
@@ -141,7 +142,7 @@ module _ (c : TStdConfig) (clock : List RateInterval) (p : ℕ) where
   fact_step unparsed s = running s
   fact_step (parsed h r) s = owned_step (owner_of c h.pid) h r (timed s)
 
--- ---- the answer
+-- ---- the answer (not a Result: it accepts with two things, each by its place, and the conditions of demands/specs go by the two names)
 pub data Outcome : Type 0 where
   accepted : TStdReport → List TStdChainStats → Outcome
   refused_with : Refusal → Outcome

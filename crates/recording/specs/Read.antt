@@ -18,6 +18,7 @@ unfoldable pub is_stream : Streams → ℕ → Bool
 is_stream s x = member x s.pids
 
 -- a packet's fact. A payload goes from payload_start to byte 188, so that its length follows; a PID that no stream has gets no runs
+-- (not an Option of a pair: theorems go by the two names)
 pub data Fact : Type 0 where
   unparsed : Fact
   parsed : TsPacket → Runs → Fact
