@@ -38,16 +38,16 @@ module _ (n : ℕ) (h : PesHeader) (p : List ℕ) where
   kept_byte i x e =
       rw (length_with n h) at (byte_joined (unit_with n h) p i x (λ k. get_or-take n (placed h ++ replicate n 0) i 0 (rw (length_with n h) at k) ∙ e))
 
-  pub kept_id : byte_at h.stream_id n 3 p ≡ get_or (unit_with n h ++ p) 3 0
+  kept_id : byte_at h.stream_id n 3 p ≡ get_or (unit_with n h ++ p) 3 0
   kept_id = kept_byte 3 h.stream_id refl
 
-  pub kept_flags : byte_at h.flags n 7 p ≡ get_or (unit_with n h ++ p) 7 0
+  kept_flags : byte_at h.flags n 7 p ≡ get_or (unit_with n h ++ p) 7 0
   kept_flags = kept_byte 7 h.flags refl
 
-  pub kept_length : byte_at h.header_data_length n 8 p ≡ get_or (unit_with n h ++ p) 8 0
+  kept_length : byte_at h.header_data_length n 8 p ≡ get_or (unit_with n h ++ p) 8 0
   kept_length = kept_byte 8 h.header_data_length refl
 
-  pub kept_pts : stamp_at h.pts n 9 p ≡ stamp_bytes_at (unit_with n h ++ p) 9
+  kept_pts : stamp_at h.pts n 9 p ≡ stamp_bytes_at (unit_with n h ++ p) 9
   unfolding stamp_at stamp_bytes_at
   kept_pts =
       λ j.
@@ -59,7 +59,7 @@ module _ (n : ℕ) (h : PesHeader) (p : List ℕ) where
         b4 = kept_byte 13 h.pts.b4 refl j;
       }
 
-  pub kept_dts : stamp_at h.dts n 14 p ≡ stamp_bytes_at (unit_with n h ++ p) 14
+  kept_dts : stamp_at h.dts n 14 p ≡ stamp_bytes_at (unit_with n h ++ p) 14
   unfolding stamp_at stamp_bytes_at
   kept_dts =
       λ j.
@@ -70,6 +70,18 @@ module _ (n : ℕ) (h : PesHeader) (p : List ℕ) where
         b3 = kept_byte 17 h.dts.b3 refl j;
         b4 = kept_byte 18 h.dts.b4 refl j;
       }
+
+  -- the header of the unit with the payload, byte by byte
+  pub joined_is : (record {
+    stream_id = byte_at h.stream_id n 3 p;
+    flags = byte_at h.flags n 7 p;
+    header_data_length = byte_at h.header_data_length n 8 p;
+    pts = stamp_at h.pts n 9 p;
+    dts = stamp_at h.dts n 14 p;
+  }) ≡ header_of (unit_with n h ++ p)
+  unfolding header_of
+  joined_is =
+      λ j. record { stream_id = kept_id j; flags = kept_flags j; header_data_length = kept_length j; pts = kept_pts j; dts = kept_dts j }
 
 -- A unit that goes on has the header of what is kept of it with the payload.
 module _ (u p : List ℕ) where
@@ -83,11 +95,5 @@ module _ (u p : List ℕ) where
   pub keeps : header_of (unit_with (length u) (header_of u) ++ p) ≡ header_of (u ++ p)
   unfolding header_of
   keeps =
-      λ j.
-      record {
-        stream_id = (sym (kept_id (length u) (header_of u) p) ∙ came 3) j;
-        flags = (sym (kept_flags (length u) (header_of u) p) ∙ came 7) j;
-        header_data_length = (sym (kept_length (length u) (header_of u) p) ∙ came 8) j;
-        pts = (sym (kept_pts (length u) (header_of u) p) ∙ stamp_came 9) j;
-        dts = (sym (kept_dts (length u) (header_of u) p) ∙ stamp_came 14) j;
-      }
+      sym (joined_is (length u) (header_of u) p)
+      ∙ λ j. record { stream_id = came 3 j; flags = came 7 j; header_data_length = came 8 j; pts = stamp_came 9 j; dts = stamp_came 14 j }

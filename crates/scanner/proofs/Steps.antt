@@ -102,7 +102,7 @@ taken n h j p e h3 h7 h8 =
     (rw (ap (λ (x : PesHeader). x.flags) e) at h7)
     (rw (ap (λ (x : PesHeader). x.header_data_length) e) at h8)
 
-pub past_limit : (n : ℕ) (h : PesHeader) (p : List ℕ) → 264 ≤ n
+past_limit : (n : ℕ) (h : PesHeader) (p : List ℕ) → 264 ≤ n
     → fed_of (unit (unit_with n h)) false p ≡ record { runs = only_body (length p); scanner = in_content }
 past_limit n h p k = through (unit_with n h) p (omega (arith, length_with n h, content_limit (unit_with n h)))
 
@@ -124,6 +124,9 @@ module _ (s x : PesScanner) (bit : Bool) (p : List ℕ) (e : s ≡ begun_at x bi
 
   pub fed_open : s.started ≡ true → fed_of (unit (unit_with s.count s.header)) false p ≡ fed_of (open_of x) bit p
   fed_open t = ap (λ (o : Open). fed_of o false p) (sym (open_is s t)) ∙ from_begun
+
+  pub fed_past : s.started ≡ true → 264 ≤ s.count → record { runs = only_body (length p); scanner = in_content } ≡ fed_of (open_of x) bit p
+  fed_past t k = sym (past_limit s.count s.header p k) ∙ fed_open t
 
   pub fed_none : s.started ≡ false → record { runs = only_body 0; scanner = idle } ≡ fed_of (open_of x) bit p
   unfolding fed_of scanner_of

@@ -92,6 +92,7 @@ fn stamp_at(kept: StampBytes, n: usize, i: usize, payload: &[u8]) -> StampBytes
 }
 
 // The header of a unit of n bytes with the payload behind them.
+#[tactic(auto, using(crate::proofs::Kept::joined_is))]
 fn joined(h: PesHeader, n: usize, payload: &[u8]) -> PesHeader
     ensures { result ≡ header_of (unit_with n h ++ payload.now) }
 {
@@ -237,6 +238,7 @@ fn kept_behind(n: usize, size: usize, t: usize, h: PesHeader) -> PesScanner
 }
 
 // The next bytes of a unit whose content may not have begun.
+#[tactic(auto, using(crate::proofs::Steps::taken, crate::proofs::Steps::begin_limit))]
 fn take_in(s: PesScanner, payload: &[u8]) -> Fed
     requires { s.count < header_limit }
     ensures { result ≡ fed_of (unit (unit_with s.count s.header)) false payload.now }
@@ -318,6 +320,7 @@ impl PesScanner {
     // The runs of a payload, and the state behind it.
     // Ruled out: runs before the first start, or from a start bit on an empty payload; the stamp with another run than the one that
     // reaches its end; the PTS where the DTS is coded.
+    #[tactic(auto, using(crate::proofs::Steps::fed_open, crate::proofs::Steps::fed_none))]
     pub fn feed(self, payload: &[u8], payload_unit_start: bool) -> Fed
         ensures { result ≡ fed_of (open_of self) payload_unit_start payload.now }
     {
