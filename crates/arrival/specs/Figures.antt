@@ -7,7 +7,7 @@ use Rattle.arrival.specs.declared.Sample.{Sample}
 use Rattle.arrival.specs.ArrivalClock.{Built, intervals, refused, build}
 use Rattle.arrival.specs.Times.{arrival_at, rate_at}
 
--- accepted with a rate and the time of byte 386, or refused with a number and a place
+-- accepted with a rate and the time of byte 386, or refused with a number and a place; not a Result of pairs, whose parts have no names
 pub data Answer : Type 0 where
   accepted : Float → Float → Answer
   refused_with : ℕ → ℕ → Answer

@@ -96,6 +96,8 @@ pub struct PacketArrival {
 const NEVER: u64 = u64::MAX;
 
 // Here and below, interval i stands at `from` + 3 i in `times` and at 2 i in `places`, which the caller lends: nothing is allocated.
+// Tried and left: one struct of the slices, `from` and the count. Each clause then names its parts as `clock.entry.times.now`, and the
+// caller, who writes to other floats of `times`, makes it anew for each packet.
 #[tactic(auto, unfolding(crate::specs::Work::holds))]
 fn holds_intervals(n: usize, times: &[f64], from: usize, places: &[u64]) -> bool
     ensures { result ≡ holds n times.now from places.now }
@@ -547,6 +549,7 @@ impl Cursor {
     {
         let mut next = self;
         let last = count.saturating_sub(1);
+        // A `while`: the cursor that each step makes has its own index, so a `for` would count beside it.
         while next.index < last && next.until <= pos {
             next = Cursor::at(times, from, places, count, next.index + 1);
         }
