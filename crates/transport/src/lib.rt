@@ -163,6 +163,7 @@ fn headed(
 // A packet of the stream: its 188 bytes come from t0 to u, and its payload begins at `payload_start` and has these runs. The interval is
 // that of its end. Runs that do not lie in the packet change and deliver nothing.
 // Ruled out: an empty payload that goes in as less than 188 bytes; bytes of no run that leave toward the branch.
+#[tactic(auto, using(crate::proofs::Ways::in_packet_lem, crate::proofs::Ways::outside_way, crate::proofs::Ways::inside_way, crate::proofs::Ways::empty_way, crate::proofs::Ways::headed_way, crate::proofs::Ways::plain_way))]
 pub fn arrive(
     tb: FluidFifo,
     runs: Runs,
