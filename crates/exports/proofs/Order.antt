@@ -5,12 +5,12 @@ use mathlib.Core.Bool.{Bool, true, false, ◌&&◌}
 use mathlib.Core.List.{List}
 use lib.ListN.{length}
 use lib.Dec.{eqb}
+use Rattle.std.specs.Prelude.{Result, Err}
 use Rattle.error.specs.declared.Refusal.{Refusal}
 use Rattle.packet.specs.Layout.{layout_of}
 use Rattle.recording.specs.Read.{read_of}
 use Rattle.profile.specs.declared.config.TStdConfig.{TStdConfig}
 use Rattle.profile.specs.declared.work.WorkSize.{WorkSize}
-use Rattle.profile.specs.declared.work.Checked.{Checked}
 use Rattle.profile.specs.Limits.{replay_limits, within_limits}
 use Rattle.profile.specs.Work.{needed_of, covers, check_of}
 use Rattle.words.specs.Config.{profile_fits, config_at}
@@ -54,11 +54,11 @@ module _ (c : TStdConfig) (lent : WorkSize) (report recording : ℕ) where
   unfolding check_with check_of
   check_same e = rw (e, and_true (covers lent (needed_of c)))
 
-  check_report : within_limits replay_limits c ≡ true → eqb report report_len ≡ false → check_with c lent report recording ≡ Checked.Refused Refusal.WorkTooShort
+  check_report : within_limits replay_limits c ≡ true → eqb report report_len ≡ false → check_with c lent report recording ≡ Err Refusal.WorkTooShort
   unfolding check_with
   check_report w e = rw (w, e, and_false (covers lent (needed_of c)))
 
-  check_outside : within_limits replay_limits c ≡ false → check_with c lent report recording ≡ Checked.Refused Refusal.OutsideLimits
+  check_outside : within_limits replay_limits c ≡ false → check_with c lent report recording ≡ Err Refusal.OutsideLimits
   unfolding check_with
   check_outside w = rw w
 
@@ -66,7 +66,7 @@ module _ (l ws : List ℕ) (times places row report : ℕ) where
   abbrev lent : WorkSize
   lent = record { times = times; places = places; row = row }
 
-  abbrev checked : Checked
+  abbrev checked : Result WorkSize Refusal
   checked = check_with (config_at ws) lent report (length l)
 
   abbrev checked_outcome : Outcome

@@ -1,48 +1,52 @@
--- What the boundary's own steps come to: a profile that was read, a refusal, and a replay. Assumes nothing.
+-- What the boundary's own steps come to: a profile that was read, or its refusal, and a replay. Assumes nothing.
 use Prim.Native.Nat.{ℕ}
-use mathlib.Core.Path.{◌≡◌, refl, sym, ◌∙◌}
-use mathlib.Core.Bool.{Bool, true, false}
+use mathlib.Core.Path.{◌≡◌, refl, sym, ap, ◌∙◌}
+use mathlib.Core.Bool.{Bool, true, false, cond, ◌&&◌}
 use mathlib.Core.List.{List}
-use native.Mathlib.Omega.{arith}
+use lib.Dec.{eqb}
 use lib.ListN.{length}
 use lib.Ieee.{Float}
 use Rattle.error.specs.declared.Refusal.{Refusal}
-use Rattle.error.specs.Code.{code_of}
 use Rattle.report.specs.Report.{empty_report}
-use Rattle.profile.specs.declared.limits.Limits.{Limits}
+use Rattle.std.specs.Prelude.{Ok, Err}
+use Rattle.profile.specs.declared.config.TStdConfig.{TStdConfig}
 use Rattle.profile.specs.Limits.{replay_limits, within_limits}
 use Rattle.answer.specs.declared.Answer.{Answer}
 use Rattle.answer.specs.Answer.{refused_answer}
-use Rattle.words.specs.declared.config_words.ProfileAnswer.{ProfileAnswer}
-use Rattle.words.specs.Config.{profile_fits, config_at, config_of}
+use Rattle.words.specs.Report.{report_len}
+use Rattle.words.specs.Config.{profile_fits, config_at}
 use Rattle.model.specs.Replay.{Outcome, refused_with}
 use Rattle.tstd.specs.Core.{answer_for, keeps_work, outcome_of, Replayed}
-use Rattle.exports.specs.Exports.{call_outcome, Answered}
+use Rattle.exports.specs.Exports.{profile_for, call_outcome, Answered}
 
--- a profile r is read from the words, or they are none
-module _ (ws : List ℕ) (r : ProfileAnswer) (is : r ≡ config_of ws) where
-  profile_by : (b : Bool) → profile_fits ws ≡ b → (config_of ws).code.number ≡ 0 → profile_fits ws ≡ true
-  unfolding config_of code_of
-  profile_by true e h = e
-  profile_by false e h = let z : ◌≡◌ {A = ℕ} 1 0 = rw e at h in absurd (omega arith)
+-- what the profile that was read, or its refusal, says of the call
+module _ (l ws : List ℕ) (times places row report : ℕ) where
+  abbrev called : Outcome
+  called = outcome_of l (config_at ws) times places row
 
-  pub is_profile : r.code.number ≡ 0 → profile_fits ws ≡ true
-  is_profile h = profile_by (profile_fits ws) refl (rw is at h)
+  pub profile_read : {c : TStdConfig} → profile_for ws report ≡ Ok c → (c ≡ config_at ws) × (call_outcome l ws times places row report ≡ called)
+  unfolding profile_for call_outcome
+  profile_read {c} e = go (profile_fits ws && within_limits replay_limits (config_at ws)) (eqb report report_len) e
+    where
+      go : (a b : Bool) → cond a (cond b (Ok (config_at ws)) (Err Refusal.WorkTooShort)) (Err Refusal.OutsideLimits) ≡ Ok c
+          → (c ≡ config_at ws) × (cond a (cond b called (refused_with Refusal.WorkTooShort)) (refused_with Refusal.OutsideLimits) ≡ called)
+      go true true e = (cc, refl)
+      go true false e = cc
+      go false b e = cc
 
-  none_by : (b : Bool) → profile_fits ws ≡ b → ((config_of ws).code.number ≡ 0 → ⊥) → profile_fits ws ≡ false
-  unfolding config_of
-  none_by false e h = e
-  none_by true e h = absurd (h (rw e))
+  -- either refusal leaves the work as it was
+  pub profile_refused : {x : Refusal} → profile_for ws report ≡ Err x → (call_outcome l ws times places row report ≡ refused_with x) × (keeps_work (refused_with x) ≡ true)
+  unfolding profile_for call_outcome keeps_work
+  profile_refused {x} e = go (profile_fits ws && within_limits replay_limits (config_at ws)) (eqb report report_len) e
+    where
+      keeps : (y : Refusal) → keeps_work (refused_with y) ≡ true → y ≡ x → (refused_with y ≡ refused_with x) × (keeps_work (refused_with x) ≡ true)
+      keeps y k s = (ap refused_with s, ap (λ (z : Refusal). keeps_work (refused_with z)) (sym s) ∙ k)
 
-  pub is_none : (r.code.number ≡ 0 → ⊥) → profile_fits ws ≡ false
-  is_none h = none_by (profile_fits ws) refl (rw is at h)
-
-  pub config_read : profile_fits ws ≡ true → r.config ≡ config_at ws
-  unfolding config_of
-  config_read e = rw (is, e)
-
-  pub limits_read : profile_fits ws ≡ true → (m : Limits) → m ≡ replay_limits → (b : Bool) → b ≡ within_limits m r.config → within_limits replay_limits (config_at ws) ≡ b
-  limits_read e m h b k = rw (← config_read e, ← h) (sym k)
+      go : (a b : Bool) → cond a (cond b (Ok (config_at ws)) (Err Refusal.WorkTooShort)) (Err Refusal.OutsideLimits) ≡ Err x
+          → (cond a (cond b called (refused_with Refusal.WorkTooShort)) (refused_with Refusal.OutsideLimits) ≡ refused_with x) × (keeps_work (refused_with x) ≡ true)
+      go true true e = cc
+      go true false e = keeps Refusal.WorkTooShort refl (cc)
+      go false b e = keeps Refusal.OutsideLimits refl (cc)
 
 module _ (l ws : List ℕ) (times : List Float) (places : List ℕ) (row report : ℕ) where
   abbrev outcome : Outcome

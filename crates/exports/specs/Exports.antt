@@ -1,12 +1,11 @@
 -- What a call of the C boundary answers, and what the lent words then hold.
-use Rattle.std.specs.Prelude.{ℕ, ◌/◌, ◌≡◌, cond, ◌&&◌, List, length, eqb, leb, Float}
+use Rattle.std.specs.Prelude.{ℕ, ◌/◌, ◌≡◌, cond, ◌&&◌, List, length, eqb, leb, Float, Result, Ok, Err}
 use Rattle.ieee.specs.Binary64.{0f}
 use Rattle.error.specs.declared.Refusal.{Refusal}
 use Rattle.report.specs.Report.{empty_report}
 use Rattle.profile.specs.Limits.{replay_limits, within_limits}
 use Rattle.profile.specs.declared.config.TStdConfig.{TStdConfig}
 use Rattle.profile.specs.declared.work.WorkSize.{WorkSize}
-use Rattle.profile.specs.declared.work.Checked.{Checked}
 use Rattle.profile.specs.Range.{max_recording}
 use Rattle.profile.specs.Work.{needed_of, covers}
 use Rattle.answer.specs.declared.Answer.{Answer}
@@ -25,17 +24,24 @@ call_outcome l ws times places row report =
     (cond (eqb report report_len) (outcome_of l (config_at ws) times places row) (refused_with Refusal.WorkTooShort))
     (refused_with Refusal.OutsideLimits)
 
+-- the profile of the words, or the first of these refusals
+unfoldable pub profile_for : (ws : List ℕ) (report : ℕ) → Result TStdConfig Refusal
+profile_for ws report =
+    cond (profile_fits ws && within_limits replay_limits (config_at ws))
+    (cond (eqb report report_len) (Ok (config_at ws)) (Err Refusal.WorkTooShort))
+    (Err Refusal.OutsideLimits)
+
 -- document 01's tests for numbers 1, 2 and 3 in their order, with the report among what number 2 is for: in this order the call's
 -- outcome comes about (proofs/Order, in_order)
-unfoldable pub check_with : TStdConfig → (lent : WorkSize) → (report recording : ℕ) → Checked
+unfoldable pub check_with : TStdConfig → (lent : WorkSize) → (report recording : ℕ) → Result WorkSize Refusal
 check_with c lent report recording =
     cond (within_limits replay_limits c)
     (cond (covers lent (needed_of c) && eqb report report_len)
     (cond (leb recording max_recording)
-    (Checked.Fits (needed_of c))
-    (Checked.Refused Refusal.RecordingTooLong))
-    (Checked.Refused Refusal.WorkTooShort))
-    (Checked.Refused Refusal.OutsideLimits)
+    (Ok (needed_of c))
+    (Err Refusal.RecordingTooLong))
+    (Err Refusal.WorkTooShort))
+    (Err Refusal.OutsideLimits)
 
 -- the answer before it is told in words
 pub record Answered (l ws : List ℕ) (times : List Float) (places : List ℕ) (row report : ℕ) (answer : Answer) (times' : List Float) (places' : List ℕ) : Type 0 where

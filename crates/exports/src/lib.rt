@@ -1,14 +1,29 @@
 // The C boundary of the replay: numbers and slices of numbers only. `exports_c` has it as a static library.
 #![tactic(auto)]
 
-ghost use Rattle.exports.specs.Exports.{Answered, Exported};
+ghost use Rattle.std.specs.Prelude.{◌≡◌};
+ghost use Rattle.exports.specs.Exports.{profile_for, Answered, Exported};
 
 use answer::Answer;
 use error::Refusal;
-use profile::Limits;
+use profile::{Limits, TStdConfig};
 use report::TStdReport;
 
 // Number 1 comes before number 2 also where the report has another length.
+#[tactic(auto, unfolding(crate::specs::Exports::profile_for, words::specs::Config::config_of))]
+fn profile_for(profile: &[u64], report_len: usize) -> Result<TStdConfig, Refusal>
+    ensures { result ≡ profile_for profile.now report_len }
+{
+    let config = words::profile_of(profile)?;
+    if !profile::in_limits(config, Limits::replay()) {
+        return Err(Refusal::OutsideLimits);
+    }
+    if report_len != words::REPORT_WORDS {
+        return Err(Refusal::WorkTooShort);
+    }
+    Ok(config)
+}
+
 fn answer(
     bytes: &[u8],
     profile: &[u64],
@@ -20,19 +35,10 @@ fn answer(
     ensures { Answered bytes.now profile.now times.old places.old row_len report_len result times.new places.new }
 {
     let before = TStdReport::new();
-    let read = words::profile_of(profile);
-    let code = read.code;
-    let config = read.config;
-    if code.number != 0 {
-        return Answer::refused(before, Refusal::OutsideLimits);
+    match profile_for(profile, report_len) {
+        Ok(config) => tstd::replay(bytes, config, times, places, row_len, before),
+        Err(refusal) => Answer::refused(before, refusal),
     }
-    if !profile::in_limits(config, Limits::replay()) {
-        return Answer::refused(before, Refusal::OutsideLimits);
-    }
-    if report_len != words::REPORT_WORDS {
-        return Answer::refused(before, Refusal::WorkTooShort);
-    }
-    tstd::replay(bytes, config, times, places, row_len, before)
 }
 
 // A replay with the profile of 69 words, told in the answer's word, six words of the row for each chain and the 324 words of the report.
