@@ -86,12 +86,13 @@ unfoldable pub take_samples : ℕ → ℕ → Building → List Sample → Build
 take_samples depth from w [] = w
 take_samples depth from w (s ∷ ss) = take_samples depth from (take_sample depth from w s) ss
 
--- the answer at the end: number 8 before 5 before the first of 6, 7 and 9; else how many intervals there are
+-- the refusal of a sample again, from its kind and the sample's number
 abbrev pub refusal_at : ClockFault → ℕ → Refusal
 refusal_at ClockFault.DiscontinuityBeforeRate sample = Refusal.DiscontinuityBeforeRate sample
 refusal_at ClockFault.RepeatedPcr sample = Refusal.RepeatedPcr sample
 refusal_at ClockFault.RateOutsideLimits sample = Refusal.RateOutsideLimits sample
 
+-- the answer at the end: number 8 before 5 before the first of 6, 7 and 9; else how many intervals there are
 abbrev pub unless_refused : Option ClockFault → ℕ → ℕ → Result ℕ Refusal
 unless_refused None sample n = Ok n
 unless_refused (Some fault) sample n = Err (refusal_at fault sample)
