@@ -2,7 +2,7 @@
 -- Assumes nothing.
 use Prim.Native.Nat.{ℕ, ◌+◌, ◌-◌, ◌*◌, ◌/◌, ◌<◌, ◌≤◌, min}
 use mathlib.Core.Path.{◌≡◌, refl, sym, ◌∙◌}
-use mathlib.Core.Bool.{Bool, true, false, cond, ◌&&◌, true≢false}
+use mathlib.Core.Bool.{Bool, true, false, cond, true≢false}
 use mathlib.Core.List.{List, []}
 use native.Mathlib.Nat.{suc-mul}
 use native.Mathlib.Numerals.{add-one}
@@ -10,17 +10,14 @@ use native.Mathlib.Omega.{arith}
 use lib.Dec.{eqb, leb}
 use lib.ListN.{length, get_or, take, drop, length-take, length-drop}
 use lib.Seq.{get_or-take, get_or-drop, take_all}
+use Rattle.std.proofs.lemmas.Bool.{and_parts}
+use Rattle.std.proofs.lemmas.Option.{none-some}
 use borrow.Author.Tests.{eqb-true, eqb-false, leb-true, le-leb, lt-leb}
 use Rattle.packet.specs.declared.TsPacketLayout.{TsPacketLayout}
 use Rattle.std.specs.Prelude.{Some, None}
 use Rattle.packet.specs.Layout.{in_sync, on_grid, layout, layout_of, window_of}
 use Rattle.packet.specs.Packet.{payload_of}
 use Rattle.packet.proofs.Grid.{sync_not, in_packet_lem}
-
-pub and_true : (a b : Bool) → a && b ≡ true → (a ≡ true) × (b ≡ true)
-and_true true true h = (refl, refl)
-and_true true false h = absurd (true≢false (sym h))
-and_true false b h = absurd (true≢false (sym h))
 
 -- each packet of a grid in sync has the sync byte
 sync_at : (l : List ℕ) (size off n k : ℕ) → in_sync l size off n ≡ true → k < n → get_or l (k * size + off) 0 ≡ 0x47
@@ -43,7 +40,7 @@ pub record Fits (l : List ℕ) (size off : ℕ) : Type 0 where
 grid_fits : (l : List ℕ) (size off : ℕ) → on_grid l size off ≡ true → Fits l size off
 unfolding on_grid
 grid_fits l size off e =
-    let a = and_true (leb 2 (length l / size)) (in_sync l size off (min (length l / size) 8)) e in
+    let a = and_parts (leb 2 (length l / size)) (in_sync l size off (min (length l / size) 8)) e in
     record {
       two = leb-true 2 (length l / size) a.0;
       synced = λ k b. sync_at l size off (min (length l / size) 8) k a.1 b;
@@ -67,9 +64,7 @@ found l y is = go (on_grid l 188 0) (on_grid l 192 4) (on_grid l 204 0) refl ref
     go true b c ea eb ec p = one 188 0 ea standard (cc)
     go false true c ea eb ec p = one 192 4 eb prefixed (cc)
     go false false true ea eb ec p = one 204 0 ec trailer (cc)
-    go false false false ea eb ec p =
-        let z : ◌≡◌ {A = ℕ} 0 1 = cc in
-        absurd (omega arith)
+    go false false false ea eb ec p = absurd (none-some y p)
 
 -- each of the three holds a packet behind its offset
 pub known_room : {y : TsPacketLayout} → Known y → y.sync_offset + 188 ≤ y.packet_size

@@ -1,7 +1,7 @@
 -- What a parse that succeeds has: a PID of 13 bits, a payload start from 4 to 188, clock references of 33 and 9 bits.
 -- Assumes nothing.
 use Prim.Native.Nat.{ℕ, ◌+◌, ◌*◌, ◌^◌, ◌<◌, ◌≤◌}
-use mathlib.Core.Path.{◌≡◌, refl, sym, ap, subst, ◌∙◌}
+use mathlib.Core.Path.{◌≡◌, refl, ap, subst, ◌∙◌}
 use mathlib.Core.Bool.{Bool, true, false, cond}
 use mathlib.Core.List.{List}
 use native.Mathlib.Omega.{arith}
@@ -27,9 +27,7 @@ use Rattle.packet.proofs.Cases.{Way, way, is_truncated, is_bad_sync, is_bare, is
 in_room : (raw : List ℕ) (r : Result ⊤ Truncated) (f : AdaptationField) → field_in raw r ≡ Ok f → f ≡ adaptation_field_of raw
 unfolding field_in
 in_room raw (Ok x) f p = cc
-in_room raw (Err t) f p =
-    let z : ◌≡◌ {A = ℕ} 0 1 = cc in
-    absurd (omega arith)
+in_room raw (Err t) f p = cc
 
 field_values : (raw : List ℕ) (f : AdaptationField) → field_of raw ≡ Ok f → f ≡ adaptation_field_of raw
 unfolding field_of
@@ -42,16 +40,13 @@ pub data Shape (w : List ℕ) (h : TsPacket) : Type 0 where
       → h ≡ packet_of w (Some (adaptation_field_of (take (field_length w) (drop 4 w)))) (4 + field_length w) → Shape w h
 
 module _ (w : List ℕ) (h : TsPacket) (is : parse_of w ≡ Ok h) where
-  other : {x : Result TsPacket TsError} → parse_of w ≡ x → (x ≡ Ok h → ◌≡◌ {A = ℕ} 0 1) → Shape w h
-  other e n = absurd (go (n (sym e ∙ is)))
-    where
-      go : ◌≡◌ {A = ℕ} 0 1 → ⊥
-      go z = omega arith
+  other : {e : TsError} → parse_of w ≡ Err e → ⊥
+  other p = cc
 
   with_field_lem : 4 + field_length w ≤ 188 → (x : Result AdaptationField Truncated) → field_of (take (field_length w) (drop 4 w)) ≡ x
       → parse_of w ≡ with_field w (4 + field_length w) x → Shape w h
   unfolding with_field
-  with_field_lem fits (Err t) e p = other p (λ q. cc)
+  with_field_lem fits (Err t) e p = absurd (other p)
   with_field_lem fits (Ok f) e p =
       let q : h ≡ packet_of w (Some f) (4 + field_length w) = cc in
       field_packet fits
@@ -61,9 +56,9 @@ module _ (w : List ℕ) (h : TsPacket) (is : parse_of w ≡ Ok h) where
   shape = go (way w)
     where
       go : Way w → Shape w h
-      go (is_truncated l) = other (truncated w l) (λ q. cc)
-      go (is_bad_sync l s) = other (bad_sync w l s) (λ q. cc)
-      go (is_overlong l s c o) = other (overlong w l s c o) (λ q. cc)
+      go (is_truncated l) = absurd (other (truncated w l))
+      go (is_bad_sync l s) = absurd (other (bad_sync w l s))
+      go (is_overlong l s c o) = absurd (other (overlong w l s c o))
       go (is_bare l s c) =
           let p = bare w l s c in
           bare_packet (cc)
@@ -75,10 +70,7 @@ module _ (w : List ℕ) (h : TsPacket) (is : parse_of w ≡ Ok h) where
   at_least = go (way w)
     where
       go : Way w → 188 ≤ length w
-      go (is_truncated l) =
-          let p = truncated w l in
-          let z : ◌≡◌ {A = ℕ} 0 1 = cc in
-          absurd (omega arith)
+      go (is_truncated l) = absurd (other (truncated w l))
       go (is_bad_sync l s) = l
       go (is_overlong l s c o) = l
       go (is_bare l s c) = l

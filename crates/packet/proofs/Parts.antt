@@ -5,11 +5,11 @@ use mathlib.Core.Bool.{cond}
 use mathlib.Core.Logic.{◌⊎◌, inl, inr}
 use mathlib.Core.List.{List, []}
 use Prim.Native.Nat.{ℕ, ◌+◌, ◌-◌, ◌*◌, ◌/◌, ◌<◌, ◌≤◌, min}
-use native.Mathlib.Nat.{add-sub_cancel_left, mul-le-mul_right, div-mul-le_self, div-lt_iff_lt-mul}
+use native.Mathlib.Nat.{add-sub_cancel_left, div-lt_iff_lt-mul}
 use native.Mathlib.Omega.{arith}
 use lib.Dec.{leb}
-use lib.ListN.{length, take, drop, length-drop, drop_of_length-le}
-use lib.Seq.{take_all, take-nil, drop-length}
+use lib.ListN.{length, take, drop, drop_of_length-le}
+use lib.Seq.{take-nil, drop-length}
 use Rattle.std.proofs.lemmas.Bool.{cases_lt}
 use borrow.Author.Tests.{le-leb, lt-leb}
 
@@ -18,17 +18,6 @@ module _ (l : List ℕ) where
   pub nothing : take (length l - length l) (drop (length l) l) ≡ []
   nothing = rw (drop-length l) (take-nil (length l - length l))
 
-  pub part_none : (from n : ℕ) → length l ≤ from → take (length l - length l) (drop (length l) l) ≡ take n (drop from l)
-  part_none from n h = nothing ∙ rw (drop_of_length-le l h) (sym (take-nil n))
-
-  pub part_rest : (from n : ℕ) → length l - from ≤ n → take (length l - from) (drop from l) ≡ take n (drop from l)
-  part_rest from n h =
-      take_all (length l - from) (drop from l) (rw (length-drop from l) (omega arith))
-      ∙ sym (take_all n (drop from l) (rw (length-drop from l) h))
-
-  pub part_whole : (from n : ℕ) → take (from + n - from) (drop from l) ≡ take n (drop from l)
-  part_whole from n = rw (add-sub_cancel_left from n)
-
   -- the window at a place
   pub window_short : (from : ℕ) → length l < from + 188
       → take (length l - length l) (drop (length l) l) ≡ cond (leb (from + 188) (length l)) (take 188 (drop from l)) []
@@ -36,7 +25,7 @@ module _ (l : List ℕ) where
 
   pub window_fits : (from : ℕ) → from + 188 ≤ length l
       → take (from + 188 - from) (drop from l) ≡ cond (leb (from + 188) (length l)) (take 188 (drop from l)) []
-  window_fits from h = part_whole from 188 ∙ sym (rw (le-leb (from + 188) (length l) h))
+  window_fits from h = rw (add-sub_cancel_left from, le-leb (from + 188) (length l) h)
 
 -- a place that is cut at m, which no byte is behind
 pub drop_capped : (l : List ℕ) (a b m : ℕ) → a ≡ min b m → length l ≤ m → drop a l ≡ drop b l
@@ -48,11 +37,6 @@ drop_capped l a b m e h = go (cases_lt m b)
         let p : a ≡ b = omega arith in
         rw p
 
--- whole packets before a place
-pub within_length : (n size k : ℕ) → k ≤ n / size → k * size ≤ n
-within_length n size k h =
-    let a : k * size ≤ n / size * size = mul-le-mul_right size h in
-    omega (arith, div-mul-le_self n size)
-
+-- packets behind a place
 pub past_length : (n size k : ℕ) → 0 < size → n / size < k → n < k * size
 past_length n size k p h = (div-lt_iff_lt-mul p).0 h

@@ -94,7 +94,8 @@ impl From<Truncated> for TsError {
     }
 }
 
-// Where the optional fields stand in an adaptation field, or would.
+// Where the optional fields stand in an adaptation field, or would. Two functions take the slice, its flags and these: a struct of the
+// three would be no plainer, since they read each by itself.
 #[derive(Clone, Copy)]
 struct Places {
     opcr: usize,
@@ -103,6 +104,7 @@ struct Places {
     extension: usize,
 }
 
+// A byte behind the end reads as 0.
 fn byte_or_zero(raw: &[u8], at: usize) -> u8
     ensures { result ≡ get_or raw.now at 0 }
 {
@@ -309,6 +311,7 @@ fn flagged_field(raw: &[u8], f: u8, p: Places) -> AdaptationField
     requires placed { Placed raw.now p }
     ensures { result ≡ adaptation_field_of raw.now }
 {
+    // Not by `then`: its closure would have to repeat what `extension_at` requires.
     let adaptation_field_extension = if f % 2 == 1 {
         Some(extension_at(raw, p.extension))
     } else {

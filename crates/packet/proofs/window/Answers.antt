@@ -1,6 +1,6 @@
 -- `packet::window` meets its contract. A packet behind the last whole one, or one that does not fit, has an empty window; no product wraps below that. Assumes nothing.
 use Rattle.packet.specs.Layout.{window_of}
-use Rattle.packet.proofs.Parts.{window_short, within_length, past_length}
+use Rattle.packet.proofs.Parts.{window_short, past_length}
 use lib.ListN.{length}
 use Prim.Native.Nat.{◌+◌, ◌*◌}
 use native.Mathlib.Nat.{mul-zero, zero-add}
@@ -18,23 +18,11 @@ returns-then-len-size c =
     let b = past_length (length a.bytes.now) a.layout.packet_size a.k (omega (arith, c.if-size-eq0.false)) c.if-len-size.true in
     window_short a.bytes.now (a.k * a.layout.packet_size + a.layout.sync_offset) (omega arith)
 
-pub overflow_mul-start : goal.overflow_mul-start
-overflow_mul-start c =
-    omega (arith, within_length (length c.args.bytes.now) c.args.layout.packet_size c.args.k c.if-len-size.false)
-
-pub overflow_sub-len : goal.overflow_sub-len
-overflow_sub-len c =
-    omega (arith, within_length (length c.args.bytes.now) c.args.layout.packet_size c.args.k c.if-len-size.false)
-
 pub returns-then-len-start : goal.returns-then-len-start
 unfolding window_of
 returns-then-len-start c =
     let a = c.args in
     window_short a.bytes.now (a.k * a.layout.packet_size + a.layout.sync_offset) (omega (arith, c.if-len-start.true))
-
-pub overflow_add-start : goal.overflow_add-start
-overflow_add-start c =
-    omega (arith, c.if-len-start.false, within_length (length c.args.bytes.now) c.args.layout.packet_size c.args.k c.if-len-size.false)
 
 pub returns : goal.returns
 unfolding window_of

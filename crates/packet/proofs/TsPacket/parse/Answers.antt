@@ -6,7 +6,6 @@ use Rattle.packet.specs.Packet.{with_field}
 use Rattle.std.specs.Prelude.{Ok}
 use Rattle.std.proofs.lemmas.Result.{err_from_is_err_and}
 use mathlib.Core.Path.{sym, ap, ◌∙◌}
-use native.Mathlib.Omega.{arith}
 use Rattle.packet.proofs.TsPacket.parse.Goals as goal
 
 pub returns-then-bytes-lt188 : goal.returns-then-bytes-lt188
@@ -17,12 +16,6 @@ returns-then-sync-ne71 c =
     let w = c.args.bytes.now in
     let h = of_slice w c.type_inv.bytes in
     sym (parse_sync w h c.if-bytes-lt188.false c.if-sync-ne71.true)
-
-pub overflow_add-total : goal.overflow_add-total
-overflow_add-total c = omega (arith, c.type_inv.bytes 4)
-
-pub overflow_add-end : goal.overflow_add-end
-overflow_add-end c = omega (arith, c.type_inv.bytes 4)
 
 pub returns-then-end-gt188 : goal.returns-then-end-gt188
 returns-then-end-gt188 c =
