@@ -1,7 +1,7 @@
 -- The step of a main chain, put together from what its parts ensure.
 use Prim.Native.Nat.{ℕ, ◌+◌, ◌*◌, ◌≤◌, ◌<◌}
 use mathlib.Core.Path.{◌≡◌, refl, sym, ap, ◌∙◌}
-use mathlib.Core.Bool.{Bool, true, false, cond, ◌&&◌, true≢false}
+use mathlib.Core.Bool.{Bool, true, false, cond, true≢false}
 use mathlib.Core.List.{List, []}
 use native.Mathlib.Omega.{arith}
 use lib.ListN.{length}
@@ -19,39 +19,29 @@ use Rattle.branch.specs.Queue.{floats_at}
 use Rattle.branch.specs.InflowInWork.{run_of}
 use Rattle.branch.specs.MainBranch.{Main, OpenAu, none, unit, Drained, drain, look_at_end, finish, Fed, fed, with_units, close_by, close_au, deliver, Step, packet_step, end_step, main_step, new_main}
 use Rattle.branch.specs.MainInWork.{new_branch, no_entries, runs_place, units_place, unit_of, main_of, BranchLies, ready, DrainedTo, FedTo, SteppedTo, StepOf}
-use Rattle.branch.proofs.Rings.{outside_then, no_entries_lem}
+use Rattle.branch.proofs.Rings.{both, ring_fits, lying_fits, outside_then, no_entries_lem}
 use Rattle.branch.proofs.Feeding.{open_none}
 
 -- ---- the test
-
-and_true : (a b : Bool) → a && b ≡ true → (a ≡ true) × (b ≡ true)
-and_true true b e = (refl, e)
-and_true false b e = absurd (true≢false (sym e))
 
 pub record Ready (w : List Float) (p : MainModel) (b : MainBranch) (k : ℕ) : Type 0 where
   pub lies : BranchLies w p b
   pub units : b.access_units < 9223372036854775808
   pub slots : k < 64
 
-readied : (w : List Float) (p : MainModel) (b : MainBranch) (k : ℕ) → p.base + 6 * p.depth ≤ length w → b.inflow.runs.head < p.depth → b.inflow.runs.count ≤ p.depth → b.pending.head < p.depth → b.pending.count ≤ p.depth →
-    b.access_units < 9223372036854775808 → k < 64 → Ready w p b k
-readied w p b k room rh rc ph pc u s =
-    record {
-      lies = record { runs = record { inside = rh; some = rc; room = omega arith }; pending = record { inside = ph; some = pc; room = omega arith } };
-      units = u;
-      slots = s;
-    }
-
 pub ready_lies : (w : List Float) (p : MainModel) (b : MainBranch) (k : ℕ) → ready (length w) p b k ≡ true → Ready w p b k
 unfolding ready
 ready_lies w p b k e =
-    let e1 = and_true _ _ e in
-    let e2 = and_true _ _ e1.1 in
-    let e3 = and_true _ _ e2.1 in
-    let e4 = and_true _ _ e3.1 in
-    let e5 = and_true _ _ e4.1 in
-    let e6 = and_true _ _ e5.1 in
-    readied w p b k (leb-true _ _ e1.0) (ltb-true _ _ e2.0) (leb-true _ _ e3.0) (ltb-true _ _ e4.0) (leb-true _ _ e5.0) (ltb-true _ _ e6.0) (ltb-true _ _ e6.1)
+    let e1 = both _ _ e in
+    let e2 = both _ _ e1.0 in
+    let e3 = both _ _ e2.0 in
+    let e4 = both _ _ e3.0 in
+    let room : p.base + 6 * p.depth ≤ length w = leb-true _ _ e4.0 in
+    record {
+      lies = record { runs = ring_fits 3 w (runs_place p) b.inflow.runs (omega arith) e4.1; pending = ring_fits 3 w (units_place p) b.pending (omega arith) e3.1 };
+      units = ltb-true _ _ e2.1;
+      slots = ltb-true _ _ e1.1;
+    }
 
 -- the other way: what a caller shows before a step
 pub lies_ready : (w : List Float) (p : MainModel) (b : MainBranch) (k : ℕ) → Ready w p b k → ready (length w) p b k ≡ true
@@ -61,10 +51,8 @@ lies_ready w p b k r =
     let room : p.base + 6 * p.depth ≤ length w = omega (arith, l.pending.room) in
     simp (
       le-leb (p.base + 6 * p.depth) (length w) room,
-      lt-ltb b.inflow.runs.head p.depth l.runs.inside,
-      le-leb b.inflow.runs.count p.depth l.runs.some,
-      lt-ltb b.pending.head p.depth l.pending.inside,
-      le-leb b.pending.count p.depth l.pending.some,
+      lying_fits l.runs,
+      lying_fits l.pending,
       lt-ltb b.access_units 9223372036854775808 r.units,
       lt-ltb k 64 r.slots,
     )

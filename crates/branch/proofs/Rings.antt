@@ -2,7 +2,7 @@
 -- the first away, and a store elsewhere changes none.
 use Prim.Native.Nat.{ℕ, zero, suc, ◌+◌, ◌-◌, ◌*◌, ◌≤◌, ◌<◌}
 use mathlib.Core.Path.{◌≡◌, refl, sym, ap, ◌∙◌}
-use mathlib.Core.Bool.{Bool, true, false}
+use mathlib.Core.Bool.{◌&&◌, Bool, true, false, true≢false}
 use mathlib.Core.List.{List, [], ◌∷◌, ◌++◌}
 use mathlib.Core.Logic.{◌⊎◌, ◌≢◌, inl, inr, ⊎_elim}
 use native.Mathlib.Omega.{arith}
@@ -12,13 +12,13 @@ use lib.ListN.{length, get_or, take, drop, drop_of_length-le}
 use lib.Seq.{drop-cons, drop-append_seam, take-append_seam}
 use lib.Dec.{ltb, eqb}
 use lib.Ieee.{Float, nan}
-use borrow.Author.Tests.{ltb-true, ltb-false, eqb-true, eqb-false, eq-eqb, ne_eqb}
+use borrow.Author.Tests.{lt-ltb, le-leb, leb-true, ltb-true, ltb-false, eqb-true, eqb-false, eq-eqb, ne_eqb}
 use Rattle.branch.specs.declared.queue.Place.{Place}
 use Rattle.branch.specs.declared.queue.Ring.{Ring}
 use Rattle.std.specs.Prelude.{Option, Some, None}
 use Rattle.std.proofs.lemmas.List.{get_or-drop, get_or-take, get_or_append_left, get_or-append_right, ext_get_or, length-append, length-drop, length-take, length-take-le}
 use Rattle.std.proofs.lemmas.Option.{none-some}
-use Rattle.branch.specs.Queue.{Lies, SameOutside, slot_of, place_of, entries_from, entries, pop_def, longer, floats_at, pushed_def, PushedTo}
+use Rattle.branch.specs.Queue.{Lies, fits, SameOutside, slot_of, place_of, entries_from, entries, pop_def, longer, floats_at, pushed_def, PushedTo}
 
 -- ---- products
 
@@ -201,6 +201,20 @@ module _ {A X : Type 0} {n : ℕ} {at : List Float → ℕ → A} {F : List A �
 
   pub walk_end : (y : X) → q.count ≤ i → F [] s ≡ y → y ≡ z
   walk_end y h e = sym e ∙ (ap (λ (l : List A). F l s) (sym (drop_all n at w p q i h)) ∙ v.rest)
+
+-- ---- the test of a ring
+
+pub both : (x y : Bool) → x && y ≡ true → (x ≡ true) × (y ≡ true)
+both true y e = (refl, e)
+both false y e = absurd (true≢false (sym e))
+
+pub ring_fits : (n : ℕ) (w : List Float) (p : Place) (q : Ring) → p.base + n * p.depth ≤ length w → fits q p.depth ≡ true → Lies n w p q
+ring_fits n w p q h e =
+    let t = both _ _ e in
+    record { inside = ltb-true _ _ t.0; some = leb-true _ _ t.1; room = h }
+
+pub lying_fits : {n : ℕ} {w : List Float} {p : Place} {q : Ring} → Lies n w p q → fits q p.depth ≡ true
+lying_fits {n} {w} {p} {q} l = simp (lt-ltb q.head p.depth l.inside, le-leb q.count p.depth l.some)
 
 -- ---- the ring stays in the work
 

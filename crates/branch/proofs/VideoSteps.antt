@@ -1,12 +1,12 @@
 -- One step of a video chain, from what its parts give, and the branch before the first packet.
 use Prim.Native.Nat.{ℕ, ◌+◌, ◌*◌, ◌≤◌, ◌<◌}
 use mathlib.Core.Path.{◌≡◌, refl, sym, ap, ◌∙◌}
-use mathlib.Core.Bool.{Bool, true, false, cond, true≢false, ◌&&◌}
+use mathlib.Core.Bool.{Bool, true, false, cond, true≢false}
 use mathlib.Core.List.{List, []}
 use native.Mathlib.Omega.{arith}
 use lib.ListN.{length}
 use lib.Dec.{eqb}
-use borrow.Author.Tests.{ltb-true, leb-true, lt-leb, lt-ltb, le-leb}
+use borrow.Author.Tests.{ltb-true, leb-true, lt-ltb, le-leb}
 use lib.Ieee.{Float, lt, ne, eq}
 use Rattle.ieee.specs.Binary64.{◌⊕◌, ◌⊘◌, 0f, 1f, 2f, 1e-6f}
 use Rattle.ieee.specs.MaxMin.{max_of}
@@ -23,7 +23,7 @@ use Rattle.branch.specs.MainBranch.{OpenAu, none, unit, open_of}
 use Rattle.branch.specs.VideoBranch.{VideoRates, Video, Advanced, advance, drain_time, finish_video}
 use Rattle.branch.specs.VideoStep.{VideoChain, new_video, fed, with_pending, close_by, close_au, deliver, packet_step, end_step, video_step}
 use Rattle.branch.specs.VideoInWork.{rates_of, leak_of, flow_of, video_of, VideoLies, chain_of, Apart, VideoFedTo, AdvancedTo, layout_of, ready, SteppedTo, BusyNoted, new_branch}
-use Rattle.branch.proofs.Rings.{outside_then}
+use Rattle.branch.proofs.Rings.{both, ring_fits, lying_fits, outside_then}
 
 -- ---- the branch before the first packet
 
@@ -166,25 +166,6 @@ module _ (r : VideoRates) (depth : ℕ) (d : Delivered) (t : Float) (c : VideoCh
 
 -- ---- the test of a step
 
-both : (x y : Bool) → x && y ≡ true → (x ≡ true) × (y ≡ true)
-both true y e = (refl, e)
-both false y e = absurd (true≢false (sym e))
-
-module _ (len : ℕ) (p : VideoModel) (b : VideoBranch) (k : ℕ) where
-  pub ready_deep : len < p.depth → ready len p b k ≡ false
-  unfolding ready
-  ready_deep h = simp (lt-leb _ _ (inside h))
-    where
-      inside : len < p.depth → len < p.base + 8 * p.depth
-      inside h = omega arith
-
-  pub ready_far : len < p.base → ready len p b k ≡ false
-  unfolding ready
-  ready_far h = simp (lt-leb _ _ (inside h))
-    where
-      inside : len < p.base → len < p.base + 8 * p.depth
-      inside h = omega arith
-
 pub record Ready (w : List Float) (p : VideoModel) (b : VideoBranch) (k : ℕ) : Type 0 where
   pub room : p.base + 8 * p.depth ≤ length w
   pub lies : VideoLies w (layout_of p) b
@@ -194,26 +175,21 @@ pub record Ready (w : List Float) (p : VideoModel) (b : VideoBranch) (k : ℕ) :
 pub ready_is : (w : List Float) (p : VideoModel) (b : VideoBranch) (k : ℕ) → ready (length w) p b k ≡ true → Ready w p b k
 unfolding ready
 ready_is w p b k h =
-    let q0 = both _ _ h in
-    let q1 = both _ _ q0.1 in
-    let q2 = both _ _ q1.1 in
-    let q3 = both _ _ q2.1 in
-    let q4 = both _ _ q3.1 in
-    let q5 = both _ _ q4.1 in
-    let q6 = both _ _ q5.1 in
-    let q7 = both _ _ q6.1 in
-    let room = leb-true _ _ q0.0 in
+    let q1 = both _ _ h in
+    let q2 = both _ _ q1.0 in
+    let q3 = both _ _ q2.0 in
+    let q4 = both _ _ q3.0 in
+    let q5 = both _ _ q4.0 in
+    let room = leb-true _ _ q5.0 in
+    let m = layout_of p in
     record {
       room = room;
       lies = record {
-        leak = record {
-          runs = record { inside = ltb-true _ _ q1.0; some = leb-true _ _ q2.0; room = omega arith };
-          marks = record { inside = ltb-true _ _ q5.0; some = leb-true _ _ q6.0; room = omega arith };
-        };
-        pending = record { inside = ltb-true _ _ q3.0; some = leb-true _ _ q4.0; room = omega arith };
+        leak = record { runs = ring_fits 3 w m.runs b.leak.mb_in.runs (omega arith) q5.1; marks = ring_fits 2 w m.marks b.leak.flow.marks (omega arith) q3.1 };
+        pending = ring_fits 3 w m.units b.pending (omega arith) q4.1;
       };
-      units = ltb-true _ _ q7.0;
-      slot = ltb-true _ _ q7.1;
+      units = ltb-true _ _ q2.1;
+      slot = ltb-true _ _ q1.1;
     }
 
 pub layout_apart : (p : VideoModel) → Apart (layout_of p)
@@ -227,12 +203,9 @@ lies_ready w p b k r =
     let q = r.lies.pending in
     simp (
       le-leb (p.base + 8 * p.depth) (length w) r.room,
-      lt-ltb b.leak.mb_in.runs.head p.depth l.runs.inside,
-      le-leb b.leak.mb_in.runs.count p.depth l.runs.some,
-      lt-ltb b.pending.head p.depth q.inside,
-      le-leb b.pending.count p.depth q.some,
-      lt-ltb b.leak.flow.marks.head p.depth l.marks.inside,
-      le-leb b.leak.flow.marks.count p.depth l.marks.some,
+      lying_fits l.runs,
+      lying_fits q,
+      lying_fits l.marks,
       lt-ltb b.access_units 9223372036854775808 r.units,
       lt-ltb k 64 r.slot,
     )

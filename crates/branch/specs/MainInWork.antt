@@ -10,7 +10,7 @@ use Rattle.branch.specs.declared.queue.Ring.{Ring}
 use Rattle.branch.specs.declared.main_branch.MainModel.{MainModel}
 use Rattle.branch.specs.declared.main_branch.MainBranch.{MainBranch}
 use Rattle.branch.specs.declared.main_branch.Stepped.{Stepped}
-use Rattle.branch.specs.Queue.{Lies, SameOutside, floats_at, entries}
+use Rattle.branch.specs.Queue.{Lies, fits, SameOutside, floats_at, entries}
 use Rattle.branch.specs.InflowInWork.{inflow_of}
 use Rattle.branch.specs.MainBranch.{Main, Drained, Fed, close_au, open_of, remove_unit, remove_events, Step, main_step}
 
@@ -72,11 +72,8 @@ pub record BranchLies (w : List Float) (p : MainModel) (b : MainBranch) : Type 0
 -- the test of a step: the rings lie in a work of len floats, the count of units has room, and the chain has slots
 unfoldable pub ready : ℕ → MainModel → MainBranch → ℕ → Bool
 ready len p b k =
-    leb (p.base + 6 * p.depth) len
-    && (ltb b.inflow.runs.head p.depth
-    && (leb b.inflow.runs.count p.depth
-    && (ltb b.pending.head p.depth
-    && (leb b.pending.count p.depth && (ltb b.access_units 9223372036854775808 && ltb k 64)))))
+    (((leb (p.base + 6 * p.depth) len && fits b.inflow.runs p.depth) && fits b.pending p.depth) && ltb b.access_units 9223372036854775808)
+    && ltb k 64
 
 -- the removal of a unit that is off the ring already
 pub record RemovedTo (w : List Float) (p : MainModel) (b : MainBranch) (u : AccessUnit) (k : ℕ) (s : Slots) (r : MainBranch) (s' : Slots) : Type 0 where

@@ -1,5 +1,5 @@
 -- A queue in a ring of places of the work, over the width of an entry, and the list of its entries.
-use Rattle.std.specs.Prelude.{ℕ, zero, suc, ◌+◌, ◌-◌, ◌*◌, ◌≤◌, ◌<◌, ◌≡◌, cond, List, [], ◌∷◌, ◌⊎◌, Option, Some, None, length, get_or, take, drop, ltb, eqb, Float}
+use Rattle.std.specs.Prelude.{ℕ, zero, suc, ◌+◌, ◌-◌, ◌*◌, ◌≤◌, ◌<◌, ◌≡◌, Bool, ◌&&◌, cond, List, [], ◌∷◌, ◌⊎◌, Option, Some, None, length, get_or, take, drop, ltb, leb, eqb, Float}
 use Rattle.std.specs.Float.{nan}
 use Rattle.branch.specs.declared.queue.Place.{Place}
 use Rattle.branch.specs.declared.queue.Ring.{Ring}
@@ -9,6 +9,10 @@ pub record Lies (n : ℕ) (w : List Float) (p : Place) (q : Ring) : Type 0 where
   pub inside : q.head < p.depth
   pub some : q.count ≤ p.depth
   pub room : p.base + n * p.depth ≤ length w
+
+-- the test that the ring's head and count suit a depth
+abbrev pub fits : Ring → ℕ → Bool
+fits q depth = ltb q.head depth && leb q.count depth
 
 -- v is w but for what stands from lo to hi
 pub record SameOutside (lo hi : ℕ) (w v : List Float) : Type 0 where

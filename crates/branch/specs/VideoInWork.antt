@@ -23,7 +23,7 @@ use Rattle.branch.specs.declared.video_branch.Looked.{Looked}
 use Rattle.branch.specs.declared.video_branch.Turned.{Turned as TurnState}
 use Rattle.branch.specs.declared.video_branch.VideoBranch.{VideoBranch}
 use Rattle.branch.specs.declared.video_branch.Stepped.{Stepped}
-use Rattle.branch.specs.Queue.{Lies, SameOutside, entries, floats_at, pop_def}
+use Rattle.branch.specs.Queue.{Lies, fits, SameOutside, entries, floats_at, pop_def}
 use Rattle.branch.specs.InflowInWork.{inflow_of}
 use Rattle.branch.specs.CumulativeIn.{Inflow, settle, arrived_by, run_refused}
 use Rattle.branch.specs.MainBranch.{open_of, grown}
@@ -287,13 +287,9 @@ layout_of p =
 -- the test of a step: the rings lie in a work of len floats, the count of units has room, and the chain has slots
 unfoldable pub ready : ℕ → VideoModel → VideoBranch → ℕ → Bool
 ready len p b k =
-    leb (p.base + 8 * p.depth) len
-    && (ltb b.leak.mb_in.runs.head p.depth
-    && (leb b.leak.mb_in.runs.count p.depth
-    && (ltb b.pending.head p.depth
-    && (leb b.pending.count p.depth
-    && (ltb b.leak.flow.marks.head p.depth
-    && (leb b.leak.flow.marks.count p.depth && (ltb b.access_units 9223372036854775808 && ltb k 64)))))))
+    ((((leb (p.base + 8 * p.depth) len && fits b.leak.mb_in.runs p.depth) && fits b.pending p.depth) && fits b.leak.flow.marks p.depth)
+    && ltb b.access_units 9223372036854775808)
+    && ltb k 64
 
 -- a step to x: the rings still lie in the work, and only the chain's part of it is written
 pub record SteppedTo (w : List Float) (m : VideoLayout) (k : ℕ) (s : Slots) (x : VideoStep) (r : Stepped) (v : List Float) (s' : Slots) : Type 0 where

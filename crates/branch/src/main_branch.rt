@@ -19,7 +19,7 @@ pub struct MainModel {
     pub depth: usize,
 }
 
-// The unit whose bytes are arriving is open_au; its decode time is -infinity where there is none.
+// The unit whose bytes are arriving is open_au; its decode time is -infinity where there is none, so that states hold floats alone.
 #[derive(Clone, Copy)]
 pub struct MainBranch {
     pub inflow: CumulativeIn,
@@ -351,20 +351,15 @@ fn ready(b: MainBranch, p: MainModel, len: usize, k: usize) -> bool
     requires { len ≤ 1152921504606846976 }
     ensures { result ≡ readyDef len p b k }
 {
-    if p.depth > len {
+    if p.depth > len || p.base > len {
         return false;
     }
-    if p.base > len {
-        return false;
-    }
-    let runs = b.inflow.runs;
-    let pending = b.pending;
+    // not &&, of which the proof would make a case each
     (p.base + 6 * p.depth <= len)
-        & ((runs.head < p.depth)
-            & ((runs.count <= p.depth)
-                & ((pending.head < p.depth)
-                    & ((pending.count <= p.depth)
-                        & ((b.access_units < 9223372036854775808) & (k < 64))))))
+        & b.inflow.runs.fits(p.depth)
+        & b.pending.fits(p.depth)
+        & (b.access_units < 1 << 63)
+        & (k < 64)
 }
 
 impl MainBranch {

@@ -1,6 +1,7 @@
-// First-in first-out queues in lent work: rings of depth places, of a width of W floats each. Only a push writes the work.
+// First-in first-out queues in lent work: rings of depth places, of a width of W floats each. Only a push writes the work. No VecDeque,
+// since the project's rules want fixed memory and no heap.
 ghost use Rattle.std.specs.Prelude.{◌≡◌, ◌+◌, ◌*◌, ◌≤◌, ◌<◌};
-ghost use Rattle.branch.specs.Queue.{Lies, slot_of, place_of, floats_at, pop_def, PushedTo};
+ghost use Rattle.branch.specs.Queue.{Lies, fits, slot_of, place_of, floats_at, pop_def, PushedTo};
 
 // Where a ring stands in the work: the same for a whole replay.
 #[derive(Clone, Copy)]
@@ -14,6 +15,14 @@ pub struct Place {
 pub struct Ring {
     pub head: usize,
     pub count: usize,
+}
+
+impl Ring {
+    pub(crate) fn fits(self, depth: usize) -> bool
+        ensures { result ≡ fits self depth }
+    {
+        (self.head < depth) & (self.count <= depth)
+    }
 }
 
 // Which place has the entry i from the front; i is count for the next entry.

@@ -5,7 +5,7 @@ ghost use Rattle.branch.specs.SysBranch.{new_sys, rsys_of, since as sinceDef, id
 
 use crate::Run;
 
-// The time of the last byte is -infinity before the first run.
+// The time of the last byte is -infinity before the first run: floats alone, no Option.
 #[derive(Clone, Copy)]
 pub struct SysBranch {
     pub fullness: f64,

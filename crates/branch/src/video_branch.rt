@@ -50,7 +50,7 @@ pub struct Flow {
     pub eb_peak: f64,
 }
 
-// The leak. busy_since is -infinity while MBn is not busy, and proc_time is -infinity before the first leak.
+// The leak. busy_since is -infinity while MBn is not busy, and proc_time is -infinity before the first leak: floats alone, no Option.
 #[derive(Clone, Copy)]
 pub struct Leak {
     pub mb_in: CumulativeIn,
@@ -384,7 +384,8 @@ fn leak_until(
     closed(leak, m, total, t, firsts, figures, k)
 }
 
-// The branch behind the transport buffer; the unit whose bytes still arrive has a decode time of -infinity where there is none.
+// The branch behind the transport buffer; the unit whose bytes still arrive has a decode time of -infinity where there is none, so that
+// states hold floats alone.
 #[derive(Clone, Copy)]
 pub struct VideoBranch {
     pub leak: Leak,
@@ -668,24 +669,16 @@ fn ready(b: VideoBranch, p: VideoModel, len: usize, k: usize) -> bool
     requires { len ≤ 1152921504606846976 }
     ensures { result ≡ readyOf len p b k }
 {
-    if p.depth > len {
+    if p.depth > len || p.base > len {
         return false;
     }
-    if p.base > len {
-        return false;
-    }
-    let leak = b.leak;
-    let runs = leak.mb_in.runs;
-    let pending = b.pending;
-    let marks = leak.flow.marks;
+    // not &&, of which the proof would make a case each
     (p.base + 8 * p.depth <= len)
-        & ((runs.head < p.depth)
-            & ((runs.count <= p.depth)
-                & ((pending.head < p.depth)
-                    & ((pending.count <= p.depth)
-                        & ((marks.head < p.depth)
-                            & ((marks.count <= p.depth)
-                                & ((b.access_units < 9223372036854775808) & (k < 64))))))))
+        & b.leak.mb_in.runs.fits(p.depth)
+        & b.pending.fits(p.depth)
+        & b.leak.flow.marks.fits(p.depth)
+        & (b.access_units < 1 << 63)
+        & (k < 64)
 }
 
 fn layout(p: VideoModel) -> VideoLayout

@@ -2,7 +2,6 @@
 use Prim.Native.Nat.{◌+◌, ◌*◌, ◌<◌}
 use native.Mathlib.Omega.{arith}
 use borrow.Author.Tests.{lt-leb}
-use borrow.Author.Rules.{rules}
 use Rattle.branch.specs.MainInWork.{ready}
 use Rattle.branch.proofs.main_branch.ready.Goals as goal
 
@@ -10,10 +9,6 @@ pub returns-then-p-len : goal.returns-then-p-len
 unfolding ready
 returns-then-p-len c = let h : c.args.len < c.args.p.base + 6 * c.args.p.depth = omega arith in simp (lt-leb _ _ h)
 
-pub returns-then-p-len-2 : goal.returns-then-p-len-2
-unfolding ready
-returns-then-p-len-2 c = let h : c.args.len < c.args.p.base + 6 * c.args.p.depth = omega arith in simp (lt-leb _ _ h)
-
 pub returns : goal.returns
 unfolding ready
-returns c = search rules
+returns c = rw (c.fits.ensures, c.fits-2.ensures)

@@ -1,16 +1,14 @@
 -- `branch::video_branch::ready` meets its contract. Assumes nothing.
-use mathlib.Core.Path.{sym}
+use Prim.Native.Nat.{◌+◌, ◌*◌, ◌<◌}
+use native.Mathlib.Omega.{arith}
+use borrow.Author.Tests.{lt-leb}
 use Rattle.branch.specs.VideoInWork.{ready}
-use Rattle.branch.proofs.VideoSteps.{ready_deep, ready_far}
-use borrow.Author.Rules.{rules}
 use Rattle.branch.proofs.video_branch.ready.Goals as goal
 
 pub returns-then-p-len : goal.returns-then-p-len
-returns-then-p-len c = sym (ready_deep _ _ _ _ c.if-p-len.true)
-
-pub returns-then-p-len-2 : goal.returns-then-p-len-2
-returns-then-p-len-2 c = sym (ready_far _ _ _ _ c.if-p-len-2.true)
+unfolding ready
+returns-then-p-len c = let h : c.args.len < c.args.p.base + 8 * c.args.p.depth = omega arith in simp (lt-leb _ _ h)
 
 pub returns : goal.returns
 unfolding ready
-returns c = search rules
+returns c = rw (c.fits.ensures, c.fits-2.ensures, c.fits-3.ensures)
