@@ -51,19 +51,15 @@ pub fn set_main(floats: &mut [f64; FLOATS], counts: &mut [u64; COUNTS], i: usize
     }
     let b = 32 * i;
     let c = 16 * i;
-    let inflow = m.inflow;
-    let runs = inflow.runs;
-    let pending = m.pending;
-    let open = m.open_au;
-    counts[c + places::MAIN_RUNS_HEAD] = runs.head as u64;
-    counts[c + places::MAIN_RUNS_COUNT] = runs.count as u64;
-    counts[c + places::MAIN_PENDING_HEAD] = pending.head as u64;
-    counts[c + places::MAIN_PENDING_COUNT] = pending.count as u64;
+    counts[c + places::MAIN_RUNS_HEAD] = m.inflow.runs.head as u64;
+    counts[c + places::MAIN_RUNS_COUNT] = m.inflow.runs.count as u64;
+    counts[c + places::MAIN_PENDING_HEAD] = m.pending.head as u64;
+    counts[c + places::MAIN_PENDING_COUNT] = m.pending.count as u64;
     counts[c + places::MAIN_ACCESS_UNITS] = m.access_units;
-    floats[b + places::MAIN_SETTLED] = inflow.settled;
-    floats[b + places::MAIN_DECODE_TIME] = open.decode_time;
-    floats[b + places::MAIN_BYTES] = open.bytes;
-    floats[b + places::MAIN_FIRST_INPUT_TIME] = open.first_input_time;
+    floats[b + places::MAIN_SETTLED] = m.inflow.settled;
+    floats[b + places::MAIN_DECODE_TIME] = m.open_au.decode_time;
+    floats[b + places::MAIN_BYTES] = m.open_au.bytes;
+    floats[b + places::MAIN_FIRST_INPUT_TIME] = m.open_au.first_input_time;
     floats[b + places::MAIN_REMOVED] = m.removed;
     floats[b + places::MAIN_REQUIRED] = m.required;
     floats[b + places::MAIN_PEAK] = m.peak;

@@ -5,36 +5,6 @@ ghost use Rattle.rows.specs.Rows.{read_scanner, stored_scanner};
 use crate::{BYTES, CHAINS, places};
 use scanner::{PesHeader, PesScanner, StampBytes};
 
-fn wide(x: u8) -> u16
-    ensures { result ≡ x }
-{
-    x as u16
-}
-
-fn low(x: u16) -> u8
-    ensures { result ≡ x % 256 }
-{
-    (x % 256) as u8
-}
-
-fn high(x: u16) -> u8
-    ensures { result ≡ x / 256 }
-{
-    (x / 256) as u8
-}
-
-fn joined(a: u8, b: u8) -> u16
-    ensures { result ≡ a + 256 * b }
-{
-    wide(a) + 256 * wide(b)
-}
-
-fn flag(x: bool) -> u8
-    ensures { result ≡ cond x 1 0 }
-{
-    if x { 1 } else { 0 }
-}
-
 // Ruled out: the scanner of another chain; PTS and DTS exchanged.
 pub fn scanner_of(bytes: &[u8; BYTES], i: usize) -> PesScanner
     ensures { result ≡ read_scanner bytes.now i }
@@ -44,7 +14,7 @@ pub fn scanner_of(bytes: &[u8; BYTES], i: usize) -> PesScanner
     }
     let b = 16 * i;
     PesScanner {
-        count: joined(bytes[b + places::COUNT_LOW], bytes[b + places::COUNT_HIGH]),
+        count: u16::from_le_bytes([bytes[b + places::COUNT_LOW], bytes[b + places::COUNT_HIGH]]),
         started: bytes[b + places::STARTED] == 1,
         header: PesHeader {
             stream_id: bytes[b + places::STREAM_ID],
@@ -76,15 +46,20 @@ pub fn set_scanner(bytes: &mut [u8; BYTES], i: usize, s: PesScanner)
         return;
     }
     let b = 16 * i;
-    let h = s.header;
-    let pts = h.pts;
-    let dts = h.dts;
-    bytes[b + places::COUNT_LOW] = low(s.count);
-    bytes[b + places::COUNT_HIGH] = high(s.count);
-    bytes[b + places::STARTED] = flag(s.started);
-    bytes[b + places::STREAM_ID] = h.stream_id;
-    bytes[b + places::FLAGS] = h.flags;
-    bytes[b + places::HEADER_DATA_LENGTH] = h.header_data_length;
+    let PesHeader {
+        stream_id,
+        flags,
+        header_data_length,
+        pts,
+        dts,
+    } = s.header;
+    let [low, high] = s.count.to_le_bytes();
+    bytes[b + places::COUNT_LOW] = low;
+    bytes[b + places::COUNT_HIGH] = high;
+    bytes[b + places::STARTED] = u8::from(s.started);
+    bytes[b + places::STREAM_ID] = stream_id;
+    bytes[b + places::FLAGS] = flags;
+    bytes[b + places::HEADER_DATA_LENGTH] = header_data_length;
     bytes[b + places::PTS_B0] = pts.b0;
     bytes[b + places::PTS_B1] = pts.b1;
     bytes[b + places::PTS_B2] = pts.b2;

@@ -70,19 +70,15 @@ fn set_leak(floats: &mut [f64; FLOATS], counts: &mut [u64; COUNTS], b: usize, c:
     requires { (b + 32 ≤ 256) × (c + 16 ≤ 128) }
     ensures { (floats.new ≡ store_from floats.old b 13 (leak_floats leak)) × (counts.new ≡ store_from counts.old c 5 (leak_counts leak)) }
 {
-    let inflow = leak.mb_in;
-    let flow = leak.flow;
-    let runs = inflow.runs;
-    let marks = flow.marks;
-    counts[c + places::VIDEO_RUNS_HEAD] = runs.head as u64;
-    counts[c + places::VIDEO_RUNS_COUNT] = runs.count as u64;
-    counts[c + places::VIDEO_MARKS_HEAD] = marks.head as u64;
-    counts[c + places::VIDEO_MARKS_COUNT] = marks.count as u64;
-    floats[b + places::VIDEO_SETTLED] = inflow.settled;
-    floats[b + places::VIDEO_TRANSFERRED] = flow.transferred;
-    floats[b + places::VIDEO_EB_IN] = flow.eb_in;
-    floats[b + places::VIDEO_EB_REMOVED] = flow.eb_removed;
-    floats[b + places::VIDEO_EB_PEAK] = flow.eb_peak;
+    counts[c + places::VIDEO_RUNS_HEAD] = leak.mb_in.runs.head as u64;
+    counts[c + places::VIDEO_RUNS_COUNT] = leak.mb_in.runs.count as u64;
+    counts[c + places::VIDEO_MARKS_HEAD] = leak.flow.marks.head as u64;
+    counts[c + places::VIDEO_MARKS_COUNT] = leak.flow.marks.count as u64;
+    floats[b + places::VIDEO_SETTLED] = leak.mb_in.settled;
+    floats[b + places::VIDEO_TRANSFERRED] = leak.flow.transferred;
+    floats[b + places::VIDEO_EB_IN] = leak.flow.eb_in;
+    floats[b + places::VIDEO_EB_REMOVED] = leak.flow.eb_removed;
+    floats[b + places::VIDEO_EB_PEAK] = leak.flow.eb_peak;
     floats[b + places::VIDEO_BUSY_SINCE] = leak.busy_since;
     floats[b + places::VIDEO_LONGEST_BUSY] = leak.longest_busy;
     floats[b + places::VIDEO_MB_PEAK] = leak.mb_peak;
@@ -98,16 +94,13 @@ pub fn set_video(floats: &mut [f64; FLOATS], counts: &mut [u64; COUNTS], i: usiz
     }
     let b = 32 * i;
     let c = 16 * i;
-    let leak = v.leak;
-    let pending = v.pending;
-    let open = v.open_au;
-    set_leak(floats, counts, b, c, leak);
-    counts[c + places::VIDEO_PENDING_HEAD] = pending.head as u64;
-    counts[c + places::VIDEO_PENDING_COUNT] = pending.count as u64;
+    set_leak(floats, counts, b, c, v.leak);
+    counts[c + places::VIDEO_PENDING_HEAD] = v.pending.head as u64;
+    counts[c + places::VIDEO_PENDING_COUNT] = v.pending.count as u64;
     counts[c + places::VIDEO_ACCESS_UNITS] = v.access_units;
-    floats[b + places::VIDEO_DECODE_TIME] = open.decode_time;
-    floats[b + places::VIDEO_BYTES] = open.bytes;
-    floats[b + places::VIDEO_FIRST_INPUT_TIME] = open.first_input_time;
+    floats[b + places::VIDEO_DECODE_TIME] = v.open_au.decode_time;
+    floats[b + places::VIDEO_BYTES] = v.open_au.bytes;
+    floats[b + places::VIDEO_FIRST_INPUT_TIME] = v.open_au.first_input_time;
     floats[b + places::VIDEO_QUEUED] = v.queued;
     floats[b + places::VIDEO_EB_REQUIRED] = v.eb_required;
     floats[b + places::VIDEO_MAX_DELAY] = v.max_delay_seconds;

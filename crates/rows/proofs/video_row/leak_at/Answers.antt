@@ -1,1 +1,0 @@
--- `rows::video_row::leak_at` meets its contract. Assumes nothing.
