@@ -7,7 +7,7 @@ use native.Mathlib.Nat.{add-zero}
 use native.Mathlib.Omega.{arith}
 use lib.ListN.{length, get_or}
 use lib.Dec.{eqb, leb}
-use borrow.Author.Tests.{eqb-true, leb-true, eq-eqb, ne_eqb, le-leb, lt-leb}
+use borrow.Author.Tests.{leb-true, eq-eqb, ne_eqb, le-leb}
 use Rattle.profile.proofs.Ranges.{and_left, and_right}
 use Rattle.words.specs.Config.{slot_word, pid_fits, slot_fits, slots_fit, system_fits, profile_fits, branch_of, stream_at, Fits}
 
@@ -48,7 +48,6 @@ module _ (ws : List ℕ) where
       let three = and_left (a && b && d) f four in
       let two = and_left (a && b) d three in
       record {
-        size = eqb-true (length ws) 69 (and_left a b two);
         streams = leb-true (get_or ws 1 0) 8 (and_right a b two);
         system = leb-true (get_or ws 2 0) 16 (and_right (a && b) d three);
         pcr = let p = leb-true (get_or ws 0 0) 65535 (and_right (a && b && d) f four) in omega arith;
@@ -61,14 +60,6 @@ module _ (ws : List ℕ) where
   other_length h = rw (ne_eqb (length ws) 69 h)
 
   module _ (size : length ws ≡ 69) where
-    pub too_many_streams : 8 < get_or ws 1 0 → false ≡ profile_fits ws
-    unfolding profile_fits
-    too_many_streams h = rw (eq-eqb (length ws) 69 size, lt-leb (get_or ws 1 0) 8 h)
-
-    pub too_many_pids : get_or ws 1 0 ≤ 8 → 16 < get_or ws 2 0 → false ≡ profile_fits ws
-    unfolding profile_fits
-    too_many_pids n h = rw (eq-eqb (length ws) 69 size, le-leb (get_or ws 1 0) 8 n, lt-leb (get_or ws 2 0) 16 h)
-
     pub by_slots : get_or ws 1 0 ≤ 8 → get_or ws 2 0 ≤ 16 → leb (get_or ws 0 0) 65535 && slots_fit ws (get_or ws 1 0) && system_fits ws (get_or ws 2 0) ≡ profile_fits ws
     unfolding profile_fits
     by_slots n m = rw (eq-eqb (length ws) 69 size, le-leb (get_or ws 1 0) 8 n, le-leb (get_or ws 2 0) 16 m)

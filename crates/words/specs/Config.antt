@@ -45,7 +45,6 @@ profile_fits ws =
 
 -- what a profile that fits has
 pub record Fits (ws : List ℕ) : Type 0 where
-  pub size : length ws ≡ profile_len
   pub streams : get_or ws 1 0 ≤ max_streams
   pub system : get_or ws 2 0 ≤ max_system_pids
   pub pcr : get_or ws 0 0 < 65536

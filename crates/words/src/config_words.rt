@@ -1,8 +1,8 @@
 // A profile of 69 words: PCR PID, stream count, system count, queue depth and clock depth; 8 slots of six words, PID, Rxn,
 // kind 0 with BSn and two words that are not looked at, or kind 1 with Rbxn, MBSn and EBSn; 16 system PIDs.
-ghost use Rattle.std.specs.Prelude.{◌≡◌, true, ◌<◌, ◌≤◌, length};
+ghost use Rattle.std.specs.Prelude.{◌≡◌, true, ◌<◌, ◌≤◌};
 ghost use Rattle.profile.specs.Range.{max_streams, max_system_pids};
-ghost use Rattle.words.specs.Config.{profile_len, pid_fits, branch_of, stream_at, slot_fits, slots_fit, slot_streams, system_fits, slot_pids, profile_fits, config_at, config_of, Fits};
+ghost use Rattle.words.specs.Config.{pid_fits, branch_of, stream_at, slot_fits, slots_fit, slot_streams, system_fits, slot_pids, profile_fits, config_at, config_of, Fits};
 
 use error::Refusal;
 use profile::limits::{MAX_STREAMS, MAX_SYSTEM_PIDS};
@@ -25,8 +25,8 @@ fn pid_fits(word: u64) -> bool
     word <= MOST_PID
 }
 
-fn slot_fits(words: &[u64], i: usize) -> bool
-    requires { (length words.now ≡ profile_len) × (i < max_streams) }
+fn slot_fits(words: &[u64; PROFILE_WORDS], i: usize) -> bool
+    requires { i < max_streams }
     ensures { result ≡ slot_fits words.now i }
 {
     let at = SLOTS + SLOT_WORDS * i;
@@ -34,34 +34,32 @@ fn slot_fits(words: &[u64], i: usize) -> bool
 }
 
 #[tactic(auto, unfolding(crate::specs::Config::slots_fit))]
-fn slots_fit(words: &[u64], count: usize) -> bool
-    requires { (length words.now ≡ profile_len) × (count ≤ max_streams) }
+fn slots_fit(words: &[u64; PROFILE_WORDS], count: usize) -> bool
+    requires { count ≤ max_streams }
     ensures { result ≡ slots_fit words.now count }
 {
     (0..count).all(|i| slot_fits(words, i))
 }
 
 #[tactic(auto, unfolding(crate::specs::Config::system_fits))]
-fn system_fits(words: &[u64], count: usize) -> bool
-    requires { (length words.now ≡ profile_len) × (count ≤ max_system_pids) }
+fn system_fits(words: &[u64; PROFILE_WORDS], count: usize) -> bool
+    requires { count ≤ max_system_pids }
     ensures { result ≡ system_fits words.now count }
 {
     (0..count).all(|i| pid_fits(words[SYSTEM_PIDS + i]))
 }
 
 #[tactic(auto, unfolding(crate::specs::Config::profile_fits))]
-fn profile_fits(words: &[u64]) -> bool
+fn profile_fits(words: &[u64; PROFILE_WORDS]) -> bool
     ensures { result ≡ profile_fits words.now }
 {
-    if words.len() != PROFILE_WORDS {
-        return false;
-    }
     let streams = words[1] as usize;
     let system = words[2] as usize;
-    if streams > MAX_STREAMS || system > MAX_SYSTEM_PIDS {
-        return false;
-    }
-    pid_fits(words[0]) & slots_fit(words, streams) & system_fits(words, system)
+    streams <= MAX_STREAMS
+        && system <= MAX_SYSTEM_PIDS
+        && pid_fits(words[0])
+        && slots_fit(words, streams)
+        && system_fits(words, system)
 }
 
 #[tactic(auto, unfolding(crate::specs::Config::branch_of))]
@@ -80,8 +78,8 @@ fn branch_of(kind: u64, a: u64, b: u64, c: u64) -> TStdBranch
     }
 }
 
-fn stream_at(words: &[u64], i: usize) -> TStdStream
-    requires { (length words.now ≡ profile_len) × (i < max_streams) × (slot_fits words.now i ≡ true) }
+fn stream_at(words: &[u64; PROFILE_WORDS], i: usize) -> TStdStream
+    requires { (i < max_streams) × (slot_fits words.now i ≡ true) }
     ensures { result ≡ stream_at words.now i }
 {
     let at = SLOTS + SLOT_WORDS * i;
@@ -94,8 +92,8 @@ fn stream_at(words: &[u64], i: usize) -> TStdStream
     }
 }
 
-fn slot_streams(words: &[u64], count: usize) -> [TStdStream; MAX_STREAMS]
-    requires { (length words.now ≡ profile_len) × (count ≤ max_streams) × (slots_fit words.now count ≡ true) }
+fn slot_streams(words: &[u64; PROFILE_WORDS], count: usize) -> [TStdStream; MAX_STREAMS]
+    requires { (count ≤ max_streams) × (slots_fit words.now count ≡ true) }
     ensures { result ≡ slot_streams words.now count }
 {
     let mut streams = TStdConfig::default().streams;
@@ -105,8 +103,8 @@ fn slot_streams(words: &[u64], count: usize) -> [TStdStream; MAX_STREAMS]
     streams
 }
 
-fn slot_pids(words: &[u64], count: usize) -> [u16; MAX_SYSTEM_PIDS]
-    requires { (length words.now ≡ profile_len) × (count ≤ max_system_pids) × (system_fits words.now count ≡ true) }
+fn slot_pids(words: &[u64; PROFILE_WORDS], count: usize) -> [u16; MAX_SYSTEM_PIDS]
+    requires { (count ≤ max_system_pids) × (system_fits words.now count ≡ true) }
     ensures { result ≡ slot_pids words.now count }
 {
     let mut pids = [0; MAX_SYSTEM_PIDS];
@@ -117,7 +115,7 @@ fn slot_pids(words: &[u64], count: usize) -> [u16; MAX_SYSTEM_PIDS]
 }
 
 #[tactic(auto, unfolding(crate::specs::Config::config_at))]
-fn config_at(words: &[u64]) -> TStdConfig
+fn config_at(words: &[u64; PROFILE_WORDS]) -> TStdConfig
     requires { Fits words.now }
     ensures { result ≡ config_at words.now }
 {
@@ -140,8 +138,8 @@ fn config_at(words: &[u64]) -> TStdConfig
 pub fn profile_of(words: &[u64]) -> Result<TStdConfig, Refusal>
     ensures { result ≡ config_of words.now }
 {
-    if !profile_fits(words) {
-        return Err(Refusal::OutsideLimits);
+    match words.as_array() {
+        Some(words) if profile_fits(words) => Ok(config_at(words)),
+        _ => Err(Refusal::OutsideLimits),
     }
-    Ok(config_at(words))
 }

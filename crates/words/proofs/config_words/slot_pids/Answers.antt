@@ -10,7 +10,7 @@ use Rattle.words.proofs.config_words.slot_pids.Goals as goal
 pub overflow_cast-pids : goal.overflow_cast-pids
 unfolding system_fits
 overflow_cast-pids c =
-    let p = pid_below _ (passes_at (λ (k : ℕ). pid_fits (system_word c.args.words.now k)) _ c.requires.2 c.loop-i.i (omega arith)) in
+    let p = pid_below _ (passes_at (λ (k : ℕ). pid_fits (system_word c.args.words.now k)) _ c.requires.1 c.loop-i.i (omega arith)) in
     record { fits = omega arith }
 
 pub loop-i-preserved : goal.loop-i-preserved

@@ -1,5 +1,4 @@
 -- `slot_streams` meets its contract. The invariant: the first i slots hold their streams, the others the unused one. Assumes nothing.
-use borrow.Author.Rules.{rules}
 use mathlib.Core.Path.{◌≡◌}
 use native.Mathlib.Omega.{arith}
 use Rattle.words.specs.Config.{slot_fits, slots_fit, slot_streams}
@@ -8,7 +7,7 @@ use Rattle.words.proofs.config_words.slot_streams.Goals as goal
 
 pub stream_at-requires : goal.stream_at-requires
 unfolding slots_fit
-stream_at-requires c = (search rules, omega arith, passes_at (slot_fits _) _ c.requires.2 _ (omega arith))
+stream_at-requires c = (omega arith, passes_at (slot_fits _) _ c.requires.1 _ (omega arith))
 
 pub loop-i-preserved : goal.loop-i-preserved
 loop-i-preserved c =
