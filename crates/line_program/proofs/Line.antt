@@ -9,10 +9,10 @@ use native.Mathlib.Nat.{min_comm}
 use lib.ListN.{length, take, length-append, length-take, length-drop}
 use lib.Seq.{length-take-le}
 use lib.Dec.{leb}
+use Rattle.std.specs.Prelude.{Ok, Err}
 use Rattle.error.specs.declared.Refusal.{Refusal}
 use Rattle.packet.specs.Layout.{layout_of}
 use Rattle.recording.specs.Read.{read_of}
-use Rattle.profile.specs.declared.work.Checked.{Checked}
 use Rattle.profile.specs.Range.{max_recording}
 use Rattle.profile.specs.Model.{branch_ok}
 use Rattle.profile.specs.Config.{stream_ok}
@@ -25,11 +25,11 @@ use Rattle.tstd.specs.Core.{outcome_of}
 use Rattle.line_program.specs.Output.{line_config, line_limits, line_room, line_outcome}
 
 -- the profile is within the limits, and the work and row are what it needs
-line_check : (n : ℕ) → check_of line_limits line_config line_room n ≡ cond (leb n 32768) (Checked.Fits (needed_of line_config)) (Checked.Refused Refusal.RecordingTooLong)
+line_check : (n : ℕ) → check_of line_limits line_config line_room n ≡ cond (leb n 32768) (Ok (needed_of line_config)) (Err Refusal.RecordingTooLong)
 unfolding check_of within_limits stream_ok branch_ok covers needed_of line_config
 line_check n = refl
 
-replay_check : (n : ℕ) → check_of replay_limits line_config line_room n ≡ cond (leb n max_recording) (Checked.Fits (needed_of line_config)) (Checked.Refused Refusal.RecordingTooLong)
+replay_check : (n : ℕ) → check_of replay_limits line_config line_room n ≡ cond (leb n max_recording) (Ok (needed_of line_config)) (Err Refusal.RecordingTooLong)
 unfolding check_of within_limits stream_ok branch_ok covers needed_of line_config
 replay_check n = refl
 

@@ -15,15 +15,19 @@ use report::TStdReport;
 pub const LONGEST_RECORDING: usize = 32768;
 
 // What a program reads: one byte more, so that a longer recording is seen.
-pub const INPUT: usize = 32769;
+pub const INPUT: usize = LONGEST_RECORDING + 1;
 
 // The longest text (`lines::write`).
 pub const TEXT: usize = 8618;
 
-// 8 × queue depth × streams + 3 × clock depth, 2 × clock depth, and a record each for the stream and the system chain.
-const TIMES: usize = 1216;
+const QUEUE_DEPTH: usize = 128;
 
-const PLACES: usize = 128;
+const CLOCK_DEPTH: usize = 64;
+
+// What the profile needs with its one stream, and a record each for the stream and the system chain (`profile::TStdConfig::check`).
+const TIMES: usize = 8 * QUEUE_DEPTH + 3 * CLOCK_DEPTH;
+
+const PLACES: usize = 2 * CLOCK_DEPTH;
 
 const CHAINS: usize = 2;
 
@@ -35,8 +39,9 @@ fn config() -> TStdConfig
         pid: 257,
         model: TStdStreamModel::audio(),
     };
-    let c = TStdConfig::single_program(256, 4096, [audio; 8], 1);
-    c.with_queue_depth(128).with_clock_depth(64)
+    TStdConfig::single_program(256, 4096, [audio; 8], 1)
+        .with_queue_depth(QUEUE_DEPTH)
+        .with_clock_depth(CLOCK_DEPTH)
 }
 
 fn answer(recording: &[u8]) -> Answer

@@ -5,4 +5,4 @@ use Rattle.line_program.proofs.config.Goals as goal
 pub returns : goal.returns
 unfolding line_config
 returns c =
-    rw (c.with_clock_depth.ensures, c.with_queue_depth.ensures, c.single_program-c.ensures, c.audio.ensures)
+    rw (c.with_clock_depth.ensures, c.with_queue_depth.ensures, c.single_program.ensures, c.audio.ensures)
