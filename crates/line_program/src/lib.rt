@@ -32,6 +32,7 @@ const PLACES: usize = 2 * CLOCK_DEPTH;
 const CHAINS: usize = 2;
 
 // PCR PID 256; audio 257; system PIDs 0, 1 and 4096.
+#[tactic(auto, unfolding(crate::specs::Output::line_config))]
 fn config() -> TStdConfig
     ensures { result ≡ line_config }
 {

@@ -83,6 +83,7 @@ impl Text<'_> {
         self.micros(seconds);
     }
 
+    #[tactic(auto, unfolding(crate::specs::Text::figure_text))]
     fn figure_field(&mut self, figure: Figure)
         ensures { Appends 21 (ascii "," ++ figure_text figure) self.old self.new }
     {
