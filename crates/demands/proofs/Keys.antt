@@ -14,7 +14,7 @@ use Rattle.report.specs.Violation.{fields_of, key_of}
 use Rattle.report.specs.Report.{empty_report, unused_line, conformant}
 use Rattle.report.specs.Keys.{has_key, all_in}
 use Rattle.report.specs.Record.{Each, record_all, accepts, event_keys, most_events, lines_of}
-use Rattle.report.proofs.Bools.{both}
+use Rattle.std.proofs.lemmas.Bool.{and_from as both}
 use Rattle.report.proofs.Lines.{fields_lines}
 use Rattle.report.proofs.Fold.{Kept, kept_empty, kept_count, records_kept, lines_all, events_all, unused_all, conformant_all}
 use Rattle.profile.specs.declared.config.TStdConfig.{TStdConfig}

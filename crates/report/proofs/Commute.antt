@@ -14,7 +14,7 @@ use Rattle.report.specs.declared.ViolationLine.{ViolationLine}
 use Rattle.report.specs.Violation.{fields_of, key_of, same_key, worse, merge_of, FigureHas}
 use Rattle.report.specs.Keys.{has_key}
 use Rattle.report.specs.Record.{keys_of, record_line}
-use Rattle.report.proofs.Bools.{true_false}
+use Rattle.std.proofs.lemmas.Bool.{true≢false}
 use Rattle.report.proofs.Keys.{same_key_eq, same_key_refl}
 use Rattle.report.proofs.Merge.{in_bytes?, same_sort, merge_fields, merge_key}
 use Rattle.report.proofs.Lines.{key_of_line, same_key_line, swapped}
@@ -37,15 +37,15 @@ module _ (v w : TStdViolation) (same : key_of v ≡ key_of w) (figures : (fields
 
   absorbed : (ls : List ViolationLine) → has_key (keys_of ls) (key_of v) ≡ true → record_line ls v ≡ record_line ls w
   unfolding has_key keys_of
-  absorbed [] h = true_false (sym h)
+  absorbed [] h = absurd (true≢false (sym h))
   absorbed (l ∷ ls) h = absorbed_by l ls (same_key (key_of_line l) (key_of v)) refl (absorbed ls) h
 
 module _ (S : Float → Type 0) (commutes : (s t : Float) → S s → S t → max_num s t ≡ max_num t s) where
   worse_comm : (f g : Figure) → in_bytes? f ≡ in_bytes? g → FigureHas (λ (n : ℕ). Unit) S f → FigureHas (λ (n : ℕ). Unit) S g → worse f g ≡ worse g f
   unfolding worse
   worse_comm (Bytes m) (Bytes n) e p q = let c : max m n ≡ max n m = omega arith in ap Bytes c
-  worse_comm (Bytes m) (Seconds t) e p q = true_false e
-  worse_comm (Seconds s) (Bytes n) e p q = true_false (sym e)
+  worse_comm (Bytes m) (Seconds t) e p q = absurd (true≢false e)
+  worse_comm (Seconds s) (Bytes n) e p q = absurd (true≢false (sym e))
   worse_comm (Seconds s) (Seconds t) e p q = ap Seconds (commutes s t p q)
 
   -- violations whose figure is in bytes, or in seconds of which S holds

@@ -18,7 +18,7 @@ use Rattle.report.specs.Violation.{key_of, same_key, merge_of}
 use Rattle.report.specs.Keys.{has_key, all_in, distinct, add_key}
 use Rattle.report.specs.Report.{empty_report, conformant}
 use Rattle.report.specs.Record.{keys_of, record_line, record_lines, lines_of, most_events, refuses, with_lines, recorded, record_all, accepts, event_keys}
-use Rattle.report.proofs.Bools.{or_left, or_right, and_left, and_right, both}
+use Rattle.std.proofs.lemmas.Bool.{or_parts, and_parts, and_from}
 use Rattle.report.proofs.Keys.{same_key_eq, add_old, add_new, add_length, has_added, distinct_add, all_add, distinct_length}
 use Rattle.report.proofs.Merge.{merge_key}
 use Rattle.report.proofs.Lines.{line_keys, same_key_line}
@@ -81,7 +81,7 @@ module _ (r : TStdReport) (v : TStdViolation) where
   module _ (full : length r.violations ≡ 64) (free : refuses r v ≡ false) where
     few : r.violation_count ≤ 64
     unfolding refuses
-    few = ltb-false 64 r.violation_count (or_left _ _ (or_left (ltb 64 r.violation_count || eqb r.violation_events most_events) _ free))
+    few = ltb-false 64 r.violation_count (or_parts _ _ (or_parts (ltb 64 r.violation_count || eqb r.violation_events most_events) _ free).0).0
 
     pub lines_length : length (lines_of r) ≡ r.violation_count
     lines_length = let h : r.violation_count ≤ length r.violations = omega (arith, few) in length-take-le r.violation_count r.violations h
@@ -90,7 +90,7 @@ module _ (r : TStdReport) (v : TStdViolation) where
     unfolding refuses
     room_by true e = rw (line_length (lines_of r) v, add_old (keys_of (lines_of r)) (key_of v) e, keys_length (lines_of r), lines_length) few
     room_by false e =
-        let n : (not (has_key (keys_of (lines_of r)) (key_of v)) && eqb r.violation_count 64) ≡ false = or_right (ltb 64 r.violation_count || eqb r.violation_events most_events) _ free in
+        let n : (not (has_key (keys_of (lines_of r)) (key_of v)) && eqb r.violation_count 64) ≡ false = (or_parts (ltb 64 r.violation_count || eqb r.violation_events most_events) _ free).1 in
         let m : r.violation_count ≡ 64 → ⊥ = eqb-false r.violation_count 64 (rw e at n) in
         rw (line_length (lines_of r) v, add_new (keys_of (lines_of r)) (key_of v) e, length-append (keys_of (lines_of r)) (key_of v ∷ []), keys_length (lines_of r), lines_length) (omega (arith, few))
 
@@ -162,11 +162,11 @@ seconds_all r (v ∷ vs) = seconds_all (recorded r v).report vs ∙ seconds_afte
 -- the first of accepted events is accepted, and so are the others after it
 first_free : (r : TStdReport) (v : TStdViolation) (vs : List TStdViolation) → accepts r (v ∷ vs) ≡ true → refuses r v ≡ false
 unfolding accepts
-first_free r v vs a = not-true (refuses r v) (and_left _ (accepts (recorded r v).report vs) a)
+first_free r v vs a = not-true (refuses r v) (and_parts _ (accepts (recorded r v).report vs) a).0
 
 rest_free : (r : TStdReport) (v : TStdViolation) (vs : List TStdViolation) → accepts r (v ∷ vs) ≡ true → accepts (recorded r v).report vs ≡ true
 unfolding accepts
-rest_free r v vs a = and_right (not (refuses r v)) _ a
+rest_free r v vs a = (and_parts (not (refuses r v)) _ a).1
 
 pub lines_all : (r : TStdReport) (vs : List TStdViolation) → accepts r vs ≡ true → lines_of (record_all r vs) ≡ record_lines (lines_of r) vs
 unfolding record_all record_lines
@@ -254,12 +254,12 @@ module _ (ps : List Key) (short : length ps ≤ 64) where
   unfolding accepts record_all all_in event_keys
   records_kept r [] k h m = (refl, k)
   records_kept r (v ∷ vs) k h m =
-      let hv : has_key ps (key_of v) ≡ true = and_left _ (all_in ps (event_keys vs)) h in
+      let hv : has_key ps (key_of v) ≡ true = (and_parts _ (all_in ps (event_keys vs)) h).0 in
       let mv : r.violation_events < most_events = omega arith in
       let e : refuses r v ≡ false = record_accepted r v k hv mv in
       let mr : (recorded r v).report.violation_events + length vs ≤ most_events = omega (arith, events_after r v e) in
-      let i = records_kept (recorded r v).report vs (kept_record r v k hv mv) (and_right (has_key ps (key_of v)) _ h) mr in
-      (both (not (refuses r v)) _ (rw e) i.0, i.1)
+      let i = records_kept (recorded r v).report vs (kept_record r v k hv mv) (and_parts (has_key ps (key_of v)) _ h).1 mr in
+      (and_from (not (refuses r v)) _ (rw e) i.0, i.1)
 
   pub records_accepted : (r : TStdReport) (vs : List TStdViolation) → Kept ps r → all_in ps (event_keys vs) ≡ true → r.violation_events + length vs ≤ most_events → accepts r vs ≡ true
   records_accepted r vs k h m = (records_kept r vs k h m).0

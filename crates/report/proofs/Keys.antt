@@ -10,22 +10,22 @@ use borrow.Author.Tests.{eqb-true, eq-eqb, not-true}
 use Rattle.report.specs.declared.violation.Key.{Key}
 use Rattle.report.specs.Violation.{same_key}
 use Rattle.report.specs.Keys.{has_key, all_in, distinct, add_key}
-use Rattle.report.proofs.Bools.{true_false, or_left, or_right, and_left, and_right, both}
+use Rattle.std.proofs.lemmas.Bool.{or_parts, and_parts, and_from, true≢false}
 
 abbrev key_at : ℕ → ℕ → Key
 key_at n p = record { kind = n; pid = p }
 
 pub same_key_eq : (k l : Key) → same_key k l ≡ true → k ≡ l
 same_key_eq k l h =
-    let p : k.kind ≡ l.kind = eqb-true k.kind l.kind (and_left _ _ h) in
-    let q : k.pid ≡ l.pid = eqb-true k.pid l.pid (and_right (eqb k.kind l.kind) _ h) in
+    let p : k.kind ≡ l.kind = eqb-true k.kind l.kind (and_parts _ _ h).0 in
+    let q : k.pid ≡ l.pid = eqb-true k.pid l.pid (and_parts (eqb k.kind l.kind) _ h).1 in
     ap (λ (n : ℕ). key_at n k.pid) p ∙ ap (key_at l.kind) q
 
 pub same_key_refl : (k : Key) → same_key k k ≡ true
-same_key_refl k = both _ _ (eq-eqb k.kind k.kind refl) (eq-eqb k.pid k.pid refl)
+same_key_refl k = and_from _ _ (eq-eqb k.kind k.kind refl) (eq-eqb k.pid k.pid refl)
 
 same_key_sym_by : (k l : Key) (b : Bool) → same_key k l ≡ b → same_key l k ≡ false → same_key k l ≡ false
-same_key_sym_by k l true e h = true_false (sym (same_key_refl k) ∙ ap (λ (j : Key). same_key j k) (same_key_eq k l e) ∙ h)
+same_key_sym_by k l true e h = absurd (true≢false (sym (same_key_refl k) ∙ ap (λ (j : Key). same_key j k) (same_key_eq k l e) ∙ h))
 same_key_sym_by k l false e h = e
 
 pub unlike : (k l : Key) → same_key l k ≡ false → same_key k l ≡ false
@@ -50,24 +50,24 @@ distinct_end : (ks : List Key) (k : Key) → distinct ks ≡ true → has_key ks
 unfolding distinct has_key
 distinct_end [] k d h = refl
 distinct_end (l ∷ ks) k d h =
-    let a : has_key ks l ≡ false = not-true _ (and_left _ _ d) in
-    let b : same_key l k ≡ false = or_left (same_key l k) (has_key ks k) h in
+    let a : has_key ks l ≡ false = not-true _ (and_parts _ _ d).0 in
+    let b : same_key l k ≡ false = (or_parts (same_key l k) (has_key ks k) h).0 in
     let e : same_key k l ≡ false = unlike k l b in
-    both (not (has_key (ks ++ (k ∷ [])) l)) _ (rw (has_end ks k l, a, e)) (distinct_end ks k (and_right (not (has_key ks l)) _ d) (or_right (same_key l k) _ h))
+    and_from (not (has_key (ks ++ (k ∷ [])) l)) _ (rw (has_end ks k l, a, e)) (distinct_end ks k (and_parts (not (has_key ks l)) _ d).1 (or_parts (same_key l k) _ h).1)
 
 -- among distinct keys, none is one of those before it
 pub distinct_before : (ks js : List Key) (k : Key) → distinct (ks ++ (k ∷ js)) ≡ true → has_key ks k ≡ false
 unfolding distinct has_key
 distinct_before [] js k d = refl
 distinct_before (l ∷ ks) js k d =
-    let a : has_key (ks ++ (k ∷ js)) l ≡ false = not-true _ (and_left _ (distinct (ks ++ (k ∷ js))) d) in
-    let b : (same_key k l || has_key js l) ≡ false = or_right (has_key ks l) _ (sym (has_append ks (k ∷ js) l) ∙ a) in
-    rw (unlike l k (or_left (same_key k l) _ b)) (distinct_before ks js k (and_right (not (has_key (ks ++ (k ∷ js)) l)) _ d))
+    let a : has_key (ks ++ (k ∷ js)) l ≡ false = not-true _ (and_parts _ (distinct (ks ++ (k ∷ js))) d).0 in
+    let b : (same_key k l || has_key js l) ≡ false = (or_parts (has_key ks l) _ (sym (has_append ks (k ∷ js) l) ∙ a)).1 in
+    rw (unlike l k (or_parts (same_key k l) _ b).0) (distinct_before ks js k (and_parts (not (has_key (ks ++ (k ∷ js)) l)) _ d).1)
 
 all_end : (ps ks : List Key) (k : Key) → all_in ps ks ≡ true → has_key ps k ≡ true → all_in ps (ks ++ (k ∷ [])) ≡ true
 unfolding all_in
-all_end ps [] k a h = both (has_key ps k) true h refl
-all_end ps (l ∷ ks) k a h = both (has_key ps l) _ (and_left _ (all_in ps ks) a) (all_end ps ks k (and_right (has_key ps l) _ a) h)
+all_end ps [] k a h = and_from (has_key ps k) true h refl
+all_end ps (l ∷ ks) k a h = and_from (has_key ps l) _ (and_parts _ (all_in ps ks) a).0 (all_end ps ks k (and_parts (has_key ps l) _ a).1 h)
 
 -- ---- a key added
 
@@ -118,7 +118,7 @@ shorter_by k p ps false e ih h = rw e (ap suc (ih (rw e at h)))
 
 shorter : (k : Key) (ps : List Key) → has_key ps k ≡ true → length ps ≡ suc (length (without k ps))
 unfolding has_key without
-shorter k [] h = true_false (sym h)
+shorter k [] h = absurd (true≢false (sym h))
 shorter k (p ∷ ps) h = shorter_by k p ps (same_key p k) refl (shorter k ps) h
 
 still_by : (k j p : Key) (ps : List Key) (b : Bool) → same_key p k ≡ b → same_key k j ≡ false → (has_key ps j ≡ true → has_key (without k ps) j ≡ true) → has_key (p ∷ ps) j ≡ true → has_key (without k (p ∷ ps)) j ≡ true
@@ -141,13 +141,13 @@ all_still : (k : Key) (ps ks : List Key) → has_key ks k ≡ false → all_in p
 unfolding all_in has_key
 all_still k ps [] n a = refl
 all_still k ps (j ∷ ks) n a =
-    both (has_key (without k ps) j) _ (still k j ps (unlike k j (or_left (same_key j k) _ n)) (and_left _ (all_in ps ks) a)) (all_still k ps ks (or_right (same_key j k) _ n) (and_right (has_key ps j) _ a))
+    and_from (has_key (without k ps) j) _ (still k j ps (unlike k j (or_parts (same_key j k) _ n).0) (and_parts _ (all_in ps ks) a).0) (all_still k ps ks (or_parts (same_key j k) _ n).1 (and_parts (has_key ps j) _ a).1)
 
 pub distinct_length : (ks ps : List Key) → distinct ks ≡ true → all_in ps ks ≡ true → length ks ≤ length ps
 unfolding distinct all_in
 distinct_length [] ps d a = omega arith
 distinct_length (k ∷ ks) ps d a =
-    let n : has_key ks k ≡ false = not-true _ (and_left _ _ d) in
-    let s : length ps ≡ suc (length (without k ps)) = shorter k ps (and_left _ _ a) in
-    let i : length ks ≤ length (without k ps) = distinct_length ks (without k ps) (and_right (not (has_key ks k)) _ d) (all_still k ps ks n (and_right (has_key ps k) _ a)) in
+    let n : has_key ks k ≡ false = not-true _ (and_parts _ _ d).0 in
+    let s : length ps ≡ suc (length (without k ps)) = shorter k ps (and_parts _ _ a).0 in
+    let i : length ks ≤ length (without k ps) = distinct_length ks (without k ps) (and_parts (not (has_key ks k)) _ d).1 (all_still k ps ks n (and_parts (has_key ps k) _ a).1) in
     omega arith

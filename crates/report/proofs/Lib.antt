@@ -1,5 +1,4 @@
 -- The laws of violations and of the report, which callers cite.
-pub mod Bools
 pub mod Keys
 pub mod Merge
 pub mod Lines

@@ -10,7 +10,7 @@ use Rattle.report.specs.declared.ViolationLine.{ViolationLine}
 use Rattle.report.specs.Violation.{fields_of, key_of, same_key, merge_of, FieldsHave}
 use Rattle.report.specs.Keys.{has_key, distinct, add_key, add_keys}
 use Rattle.report.specs.Record.{keys_of, record_line, record_lines, Each, event_keys}
-use Rattle.report.proofs.Bools.{true_false, or_left, or_right}
+use Rattle.std.proofs.lemmas.Bool.{or_parts, true≢false}
 use Rattle.report.proofs.Keys.{same_key_eq, has_add, has_added, distinct_add, distinct_before}
 use Rattle.report.proofs.Merge.{merge_key, merge_has, merge_assoc}
 
@@ -120,7 +120,7 @@ module _ (a b : TStdViolation) (same : same_key (key_of a) (key_of b) ≡ true) 
 module _ (u b : TStdViolation) (other : same_key (key_of u) (key_of b) ≡ false) where
   swap_by : (l : ViolationLine) (ls : List ViolationLine) (s t : Bool) → same_key (key_of_line l) (key_of u) ≡ s → same_key (key_of_line l) (key_of b) ≡ t → (has_key (keys_of ls) (key_of b) ≡ true → record_line (record_line ls u) b ≡ record_line (record_line ls b) u) → has_key (keys_of (l ∷ ls)) (key_of b) ≡ true → record_line (record_line (l ∷ ls) u) b ≡ record_line (record_line (l ∷ ls) b) u
   unfolding has_key keys_of
-  swap_by l ls true true d e ih h = true_false (sym e ∙ rw (same_key_eq (key_of_line l) (key_of u) d) other)
+  swap_by l ls true true d e ih h = absurd (true≢false (sym e ∙ rw (same_key_eq (key_of_line l) (key_of u) d) other))
   swap_by l ls true false d e ih h =
       ap (λ (x : List ViolationLine). record_line x b) (line_merged l ls u d) ∙ line_passed (record { violation = merge_of l.violation u }) ls b (merged_key l ls u b e) ∙ sym (line_merged l (record_line ls b) u d) ∙
       sym (ap (λ (x : List ViolationLine). record_line x u) (line_passed l ls b e))
@@ -134,7 +134,7 @@ module _ (u b : TStdViolation) (other : same_key (key_of u) (key_of b) ≡ false
   -- an event whose key has a line already may come before one of another key
   pub swapped : (ls : List ViolationLine) → has_key (keys_of ls) (key_of b) ≡ true → record_line (record_line ls u) b ≡ record_line (record_line ls b) u
   unfolding has_key keys_of
-  swapped [] h = true_false (sym h)
+  swapped [] h = absurd (true≢false (sym h))
   swapped (l ∷ ls) h = swap_by l ls (same_key (key_of_line l) (key_of u)) (same_key (key_of_line l) (key_of b)) refl refl (swapped ls) h
 
 module _ (b : TStdViolation) (vs : List TStdViolation) where
@@ -157,7 +157,7 @@ module _ (b : TStdViolation) (vs : List TStdViolation) where
 
 new_by : (l : ViolationLine) (ls : List ViolationLine) (v : TStdViolation) → has_key (keys_of (l ∷ ls)) (key_of v) ≡ false → (has_key (keys_of ls) (key_of v) ≡ false → record_line ls v ≡ ls ++ (record { violation = v } ∷ [])) → record_line (l ∷ ls) v ≡ (l ∷ ls) ++ (record { violation = v } ∷ [])
 unfolding has_key keys_of
-new_by l ls v h ih = line_passed l ls v (or_left (same_key (key_of_line l) (key_of v)) _ h) ∙ ap (λ (x : List ViolationLine). l ∷ x) (ih (or_right (same_key (key_of_line l) (key_of v)) _ h))
+new_by l ls v h ih = line_passed l ls v (or_parts (same_key (key_of_line l) (key_of v)) _ h).0 ∙ ap (λ (x : List ViolationLine). l ∷ x) (ih (or_parts (same_key (key_of_line l) (key_of v)) _ h).1)
 
 pub line_new : (ls : List ViolationLine) (v : TStdViolation) → has_key (keys_of ls) (key_of v) ≡ false → record_line ls v ≡ ls ++ (record { violation = v } ∷ [])
 unfolding record_line

@@ -15,7 +15,7 @@ use Rattle.report.specs.declared.violation.ViolationFields.{ViolationFields}
 use Rattle.report.specs.declared.violation.TStdViolation.{TStdViolation}
 use Rattle.report.specs.declared.violation.TStdViolation.TheVariants.{TbOverflow, TbBusyOverOneSecond, MainOverflow, MainUnderflow, MbOverflow, MbBusyOverOneSecond, EbUnderflow, DelayOverOneSecond, BsysOverflow}
 use Rattle.report.specs.Violation.{fields_of, key_of, worse, bytes_or, seconds_or, with_figure, merge_of, FigureHas, FieldsHave}
-use Rattle.report.proofs.Bools.{true_false}
+use Rattle.std.proofs.lemmas.Bool.{true≢false}
 use Rattle.ieee.proofs.MaxAssociative.{max_assoc, max_holds}
 
 -- ---- figures: in bytes, or in seconds
@@ -26,10 +26,10 @@ in_bytes? (Seconds s) = false
 
 bytes_or_lem : (n : ℕ) (f : Figure) → in_bytes? f ≡ true → Bytes (bytes_or n f) ≡ f
 bytes_or_lem n (Bytes m) e = refl
-bytes_or_lem n (Seconds s) e = true_false (sym e)
+bytes_or_lem n (Seconds s) e = absurd (true≢false (sym e))
 
 seconds_or_lem : (s : Float) (f : Figure) → in_bytes? f ≡ false → Seconds (seconds_or s f) ≡ f
-seconds_or_lem s (Bytes n) e = true_false e
+seconds_or_lem s (Bytes n) e = absurd (true≢false e)
 seconds_or_lem s (Seconds t) e = refl
 
 worse_sort : (f g : Figure) → in_bytes? (worse f g) ≡ in_bytes? f
@@ -42,10 +42,10 @@ worse_sort (Seconds s) (Seconds t) = refl
 worse_assoc : (f g h : Figure) → in_bytes? g ≡ in_bytes? f → in_bytes? h ≡ in_bytes? f → worse (worse f g) h ≡ worse f (worse g h)
 unfolding worse
 worse_assoc (Bytes l) (Bytes m) (Bytes n) p q = let e : max (max l m) n ≡ max l (max m n) = omega arith in ap Bytes e
-worse_assoc (Bytes l) (Bytes m) (Seconds t) p q = true_false (sym q)
-worse_assoc (Bytes l) (Seconds s) h p q = true_false (sym p)
-worse_assoc (Seconds r) (Bytes m) h p q = true_false p
-worse_assoc (Seconds r) (Seconds s) (Bytes n) p q = true_false q
+worse_assoc (Bytes l) (Bytes m) (Seconds t) p q = absurd (true≢false (sym q))
+worse_assoc (Bytes l) (Seconds s) h p q = absurd (true≢false (sym p))
+worse_assoc (Seconds r) (Bytes m) h p q = absurd (true≢false p)
+worse_assoc (Seconds r) (Seconds s) (Bytes n) p q = absurd (true≢false q)
 worse_assoc (Seconds r) (Seconds s) (Seconds t) p q = ap Seconds (max_assoc r s t)
 
 worse_has : (B : ℕ → Type 0) (S : Float → Type 0) (f g : Figure) → FigureHas B S f → FigureHas B S g → FigureHas B S (worse f g)
@@ -98,10 +98,10 @@ with_fields (BsysOverflow x) f e = rw (bytes_or_lem x f e)
 
 bytes_twice : (n : ℕ) (f g : Figure) → in_bytes? g ≡ true → bytes_or (bytes_or n f) g ≡ bytes_or n g
 bytes_twice n f (Bytes m) e = refl
-bytes_twice n f (Seconds s) e = true_false (sym e)
+bytes_twice n f (Seconds s) e = absurd (true≢false (sym e))
 
 seconds_twice : (s : Float) (f g : Figure) → in_bytes? g ≡ false → seconds_or (seconds_or s f) g ≡ seconds_or s g
-seconds_twice s f (Bytes n) e = true_false e
+seconds_twice s f (Bytes n) e = absurd (true≢false e)
 seconds_twice s f (Seconds t) e = refl
 
 with_twice : (v : TStdViolation) (f g : Figure) → in_bytes? g ≡ in_bytes? (fields_of v).figure → with_figure (with_figure v f) g ≡ with_figure v g

@@ -14,7 +14,7 @@ use Rattle.report.specs.Violation.{fields_of, key_of, same_key}
 use Rattle.report.specs.Keys.{has_key, all_in}
 use Rattle.report.specs.Report.{empty_report}
 use Rattle.report.specs.Record.{record_all, accepts, event_keys, most_events}
-use Rattle.report.proofs.Bools.{both, true_false}
+use Rattle.std.proofs.lemmas.Bool.{and_from, true≢false}
 use Rattle.report.proofs.Keys.{same_key_refl}
 use Rattle.report.proofs.Fold.{Kept, kept_empty, kept_count, records_kept}
 use Rattle.profile.specs.declared.model.TStdBranch.{TStdBranch}
@@ -47,7 +47,7 @@ has_right (j ∷ js) ks k h = has_there j (js ++ ks) k (has_right js ks k h)
 
 pub has_left : (js ks : List Key) (k : Key) → has_key js k ≡ true → has_key (js ++ ks) k ≡ true
 unfolding has_key
-has_left [] ks k h = true_false (sym h)
+has_left [] ks k h = absurd (true≢false (sym h))
 has_left (j ∷ js) ks k h = by_test (same_key j k) h (has_left js ks k)
   where
     by_test : (b : Bool) → (b || has_key js k) ≡ true → (has_key js k ≡ true → has_key (js ++ ks) k ≡ true) → (b || has_key (js ++ ks) k) ≡ true
@@ -128,13 +128,13 @@ module _ (c : TStdConfig) (whole : length c.streams ≡ 8) where
   possible_all : (fs : List Found) → all_in (possible_keys c) (event_keys (violations_of c fs)) ≡ true
   unfolding all_in event_keys violations_of
   possible_all [] = refl
-  possible_all (f ∷ fs) = both (has_key (possible_keys c) (key_of (violation_of c f.chain f.event))) _ (possible_key f.chain f.event) (possible_all fs)
+  possible_all (f ∷ fs) = and_from (has_key (possible_keys c) (key_of (violation_of c f.chain f.event))) _ (possible_key f.chain f.event) (possible_all fs)
 
   -- a slot's violations are those of an event of its chain
   pub possible_slots : (figures : List Float) (ks : List ℕ) → all_in (possible_keys c) (event_keys (map (violation_in c figures) ks)) ≡ true
   unfolding all_in event_keys slot_violation
   possible_slots figures [] = refl
-  possible_slots figures (k ∷ ks) = both (has_key (possible_keys c) (key_of (violation_in c figures k))) _ (possible_key ((k - 1) / 6) (event_of ((k - 1) % 6) (get_or figures k nan) (get_or figures (64 + k) nan))) (possible_slots figures ks)
+  possible_slots figures (k ∷ ks) = and_from (has_key (possible_keys c) (key_of (violation_in c figures k))) _ (possible_key ((k - 1) / 6) (event_of ((k - 1) % 6) (get_or figures k nan) (get_or figures (64 + k) nan))) (possible_slots figures ks)
 
   -- what is known of a report that events of possible keys have made
   pub record Recorded51 (vs : List TStdViolation) : Type 0 where

@@ -8,7 +8,7 @@ use lib.ListN.{length, get_or}
 use lib.Dec.{ltb, leb, eqb}
 use borrow.Author.Tests.{ltb-true, ltb-false, leb-true, leb-false, eqb-true, eqb-false, lt-ltb}
 use Rattle.std.specs.Prelude.{Option, Some, None}
-use Rattle.report.proofs.Bools.{true_false, and_left, and_right, both}
+use Rattle.std.proofs.lemmas.Bool.{and_parts, and_from, true≢false}
 use Rattle.summary.specs.Next.{NextSlot}
 
 -- slot j may come next
@@ -54,8 +54,8 @@ module _ (firsts : List ℕ) (after : ℕ) where
 
     pub scan_better : (best : Option ℕ) → Scanned firsts after k best → (ltb after f && sooner firsts best f) ≡ true → Scanned firsts after (k + 1) (Some k)
     scan_better None s t =
-        let p = ltb-true after f (and_left (ltb after f) _ t) in
-        let q = leb-true f (get_or firsts 0 0) (and_right (ltb after f) _ t) in
+        let p = ltb-true after f (and_parts (ltb after f) _ t).0 in
+        let q = leb-true f (get_or firsts 0 0) (and_parts (ltb after f) _ t).1 in
         record {
           passed = omega arith;
           candidate = record { low = low; behind = p; counted = q };
@@ -63,8 +63,8 @@ module _ (firsts : List ℕ) (after : ℕ) where
           least = λ j h c. at_or_below j h (λ e. omega (arith, at_k j e)) (λ g. absurd (s j g c));
         }
     scan_better (Some b) s t =
-        let p = ltb-true after f (and_left (ltb after f) _ t) in
-        let q = ltb-true f (get_or firsts b 0) (and_right (ltb after f) _ t) in
+        let p = ltb-true after f (and_parts (ltb after f) _ t).0 in
+        let q = ltb-true f (get_or firsts b 0) (and_parts (ltb after f) _ t).1 in
         let counted = s.candidate.counted in
         record {
           passed = omega arith;
@@ -78,7 +78,7 @@ module _ (firsts : List ℕ) (after : ℕ) where
     fails best t p = go (sooner firsts best f) refl
       where
         go : (b : Bool) → sooner firsts best f ≡ b → sooner firsts best f ≡ false
-        go true e = true_false (sym (both (ltb after f) _ (lt-ltb after f p) e) ∙ t)
+        go true e = absurd (true≢false (sym (and_from (ltb after f) _ (lt-ltb after f p) e) ∙ t))
         go false e = e
 
     pub scan_other : (best : Option ℕ) → Scanned firsts after k best → (ltb after f && sooner firsts best f) ≡ false → Scanned firsts after (k + 1) best
