@@ -4,5 +4,6 @@ pub mod Complement
 pub mod Pushes
 pub mod Feeds
 pub mod Field
+pub mod Made
 pub mod FloatWord
 pub mod RecordCases

@@ -1,5 +1,5 @@
 -- Words stored in front of what a slice holds. Assumes nothing.
-use Rattle.std.proofs.Common.{◌≡◌, ℕ, ◌<◌, ◌≤◌, List, [], ◌++◌, length, drop, append-nil, arith, le-leb, drop_of_length-le}
+use Rattle.std.proofs.Common.{◌≡◌, ℕ, ◌<◌, ◌≤◌, List, [], ◌++◌, length, append-nil, arith, le-leb, drop_of_length-le}
 use borrow.Author.Tests.{lt-leb}
 use borrow.Rule.Slice.PartMut.{put_mid}
 use lib.Seq.{take_at, drop_at}
@@ -9,10 +9,6 @@ module _ {A : Type 0} (words out : List A) where
   pub no_room : length out < length words → out ≡ stored words out
   unfolding stored
   no_room h = rw (lt-leb (length words) (length out) h)
-
-  pub room : length words ≤ length out → words ++ drop (length words) out ≡ stored words out
-  unfolding stored
-  room h = rw (le-leb (length words) (length out) h)
 
 -- no words: the slice stays as it was
 pub stored_none : {A : Type 0} (out : List A) → out ≡ stored [] out

@@ -71,17 +71,9 @@ fn lines_at(words: &[u64]) -> [ViolationLine; 64]
     requires { length words.now ≡ 324 }
     ensures { result ≡ lines_at words.now }
 {
-    let violation = TbOverflow {
-        pid: 0,
-        peak_bytes: 0,
-    };
-    let mut lines = [ViolationLine { violation }; 64];
-    for i in 0..64 {
-        lines[i] = ViolationLine {
-            violation: violation_at(words, 4 + 5 * i),
-        };
-    }
-    lines
+    std::array::from_fn(|i| ViolationLine {
+        violation: violation_at(words, 4 + 5 * i),
+    })
 }
 
 #[tactic(auto, unfolding(crate::specs::Record::report_at))]

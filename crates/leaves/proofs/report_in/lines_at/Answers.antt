@@ -1,14 +1,10 @@
--- `lines_at` meets its contract. The invariant: the first i slots hold their lines (`Filled`). Assumes nothing.
-use Rattle.std.proofs.Common.{◌≡◌, ◌∙◌, append-nil, arith}
-use Rattle.words.proofs.UpTo.{filled_next}
+-- `lines_at` meets its contract: each line is `line_of` its place. Assumes nothing.
+use Rattle.std.proofs.Common.{rules}
+use Rattle.report.specs.Report.{unused_line}
 use Rattle.leaves.specs.Record.{line_of, lines_at}
+use Rattle.leaves.proofs.Made.{made}
 use Rattle.leaves.proofs.report_in.lines_at.Goals as goal
 
-pub loop-i-preserved : goal.loop-i-preserved
-unfolding line_of
-loop-i-preserved c =
-    rw c.violation_at.ensures (filled_next (line_of _) _ 64 _ _ (omega arith) c.loop-i.invariant)
-
 pub returns : goal.returns
-unfolding lines_at
-returns c = let e : c.loop-i.i ≡ 64 = omega arith in rw e at c.loop-i.invariant ∙ append-nil _
+unfolding lines_at line_of
+returns c = made _ (line_of c.args.words.now) _ (λ i y q k. search rules) _ unused_line 64 c.from_fn.ensures.items
