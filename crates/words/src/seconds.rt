@@ -5,6 +5,7 @@ ghost use Rattle.words.specs.Bits.{bits_of};
 pub trait SecondsWord {
     ghost told: { Float → ℕ };
 
+    // Ruled out: one word for two figures that are told apart; the bits of a binary32.
     fn word(seconds: f64) -> u64
         ensures { result ≡ told seconds };
 }
