@@ -6,6 +6,7 @@ use crate::put::{number, put};
 use error::Refusal;
 use profile::{TStdBranch, TStdStreamModel};
 
+// The kind is a number, as C hands it.
 #[tactic(auto, unfolding(crate::specs::Leaves::model_by))]
 fn model_by(kind: u64, a: u64, b: u64, c: u64) -> Result<TStdStreamModel, Refusal>
     ensures { result ≡ model_by kind a b c }

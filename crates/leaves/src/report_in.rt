@@ -6,6 +6,7 @@ use crate::seconds::seconds_of;
 use report::TStdViolation::*;
 use report::{TStdReport, TStdViolation, ViolationLine};
 
+// The kind is a number, as C hands it.
 #[tactic(auto, unfolding(crate::specs::Record::bytes_kind))]
 fn bytes_kind(kind: u64, pid: u16, limit: usize, time: f64, n: u64) -> TStdViolation
     ensures { result ≡ bytes_kind kind pid limit time n }

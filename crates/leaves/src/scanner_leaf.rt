@@ -6,6 +6,7 @@ ghost use Rattle.leaves.specs.Scanner.{stamp_in, scanner_at, scanner_words, run_
 use crate::put::{flag, put, word_of};
 use scanner::{PesHeader, PesScanner, Runs, StampBytes};
 
+// The words of a state. They stay a slice: as an array of 15 they would be another list than the definition reads.
 const STATE_WORDS: usize = 15;
 
 fn byte(word: u64) -> u8
