@@ -29,7 +29,7 @@ pub struct Ran {
 }
 
 // One function, since the arrays of chains must stay in the one that has the loop: handed to a step they would be copied whole for each packet.
-// For the same reason a scanner is read whole only where it is fed, and a model where its kind is known.
+// For the same reason a scanner is read whole only where it is fed. The loop is a while, since a skip moves k on.
 pub(crate) fn run(
     config: TStdConfig,
     bytes: &[u8],

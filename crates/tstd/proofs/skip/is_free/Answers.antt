@@ -16,7 +16,7 @@ returns-then-window-eq1 c e = absurd (true≢false (sym e))
 pub returns-then-pid-lt-PIDS : goal.returns-then-pid-lt-PIDS
 returns-then-pid-lt-PIDS c e =
     let w = c.args.window.now in
-    free_header _ w (of_slice w c.shared_slice_known-1.given) c.if-window-lt188.false c.if-window-ne71.false c.if-window-eq1.false _ (c.from-pid.ensures ∙ c.pid_of.ensures) c.if-pid-lt-PIDS.true (eqb-true _ 9 e)
+    free_header _ w (of_slice w c.type_inv.window) c.if-window-lt188.false c.if-window-ne71.false c.if-window-eq1.false _ (c.from-pid.ensures ∙ c.pid_of.ensures) c.if-pid-lt-PIDS.true (eqb-true _ 9 e)
 
 pub returns : goal.returns
 returns c e = absurd (true≢false (sym e))
