@@ -1,12 +1,11 @@
 -- What holds of every answer of `analyze_tstd`, whatever the recording, the profile and what is lent: demands 1 and 3. Assumes nothing.
+use Rattle.std.specs.Prelude.{Result, Ok, Err}
 use Rattle.std.specs.Prelude.{ℕ, ◌≤◌, ◌≡◌, refl, ◌↔◌, ◌⊎◌, List, ◌++◌, length, drop}
 use Rattle.std.proofs.Common.{sym, ◌∙◌, subst, inl, inr, arith}
 use Rattle.std.proofs.Math.Path.{ap}
 use Rattle.std.proofs.Math.Seq.{take-append_seam, drop-append_seam}
 use Rattle.error.specs.declared.Refusal.{Refusal}
-use Rattle.error.specs.declared.Code.{Code}
-use Rattle.error.specs.Code.{code_of, code_numbered}
-use Rattle.error.proofs.Distinct.{code_injective}
+use Rattle.error.specs.Code.{code_of}
 use Rattle.recording.specs.Content.{OnlyContent}
 use Rattle.recording.specs.Read.{read_of}
 use Rattle.report.specs.declared.TStdReport.{TStdReport}
@@ -18,37 +17,24 @@ use Rattle.model.specs.Replay.{Outcome, accepted, refused_with, replay, streams_
 use Rattle.demands.specs.Refused.{Completed, RefusedBy}
 use Rattle.demands.proofs.Refused as laws
 use Rattle.tstd.specs.Demands as tstd
-use Rattle.analyze.specs.Analyze.{Lent, outcome_for, code_for, report_for, row_for, Analyzed}
+use Rattle.analyze.specs.Analyze.{Lent, outcome_for, result_for, report_for, row_for, Analyzed}
 use Rattle.analyze.specs.Answers.{room_of, chain_count, chains_in, surplus_in, Accepted, Refused, SameAnswer}
 use Rattle.analyze.specs.Chains.{one_per_chain}
 
--- ---- numbers
-refused_number : (x : Refusal) → 1 ≤ (code_of x).number
-refused_number Refusal.OutsideLimits = omega arith
-refused_number Refusal.WorkTooShort = omega arith
-refused_number Refusal.RecordingTooLong = omega arith
-refused_number Refusal.NoPacketLayout = omega arith
-refused_number Refusal.TooFewPcrs = omega arith
-refused_number (Refusal.DiscontinuityBeforeRate n) = omega arith
-refused_number (Refusal.RepeatedPcr n) = omega arith
-refused_number (Refusal.ClockFull n) = omega arith
-refused_number (Refusal.RateOutsideLimits n) = omega arith
-refused_number (Refusal.QueueFull k pid) = omega arith
-
 -- ---- one answer
-module _ (l : List ℕ) (c : TStdConfig) (lent left : Lent) (code : Code) (is : Analyzed l c lent left code) where
+module _ (l : List ℕ) (c : TStdConfig) (lent left : Lent) (told : Result Unit Refusal) (is : Analyzed l c lent left told) where
   -- by a refusal of the definition
   module _ (x : Refusal) (e : outcome_for l c lent ≡ refused_with x) where
-    code_refused : code ≡ code_of x
-    unfolding code_for
-    code_refused = is.answer ∙ ap code_for e
+    told_refused : told ≡ Err x
+    unfolding result_for
+    told_refused = is.answer ∙ ap result_for e
 
-    by_refused : Refused l c lent left code
+    by_refused : Refused l c lent left told
     unfolding report_for row_for
     by_refused =
         record {
           refusal = x;
-          told = code_refused;
+          err = told_refused;
           condition = (tstd.refused_iff replay_limits c (room_of lent) l x).0 e;
           report_kept = is.report ∙ ap (λ (o : Outcome). report_for o lent.report) e;
           row_kept = is.row ∙ ap (λ (o : Outcome). row_for o lent.row) e;
@@ -56,9 +42,9 @@ module _ (l : List ℕ) (c : TStdConfig) (lent left : Lent) (code : Code) (is : 
 
   -- by an accepted outcome of the definition
   module _ (r : TStdReport) (fs : List TStdChainStats) (e : outcome_for l c lent ≡ accepted r fs) where
-    code_accepted : code ≡ code_numbered 0
-    unfolding code_for
-    code_accepted = is.answer ∙ ap code_for e
+    told_accepted : told ≡ Ok tt
+    unfolding result_for
+    told_accepted = is.answer ∙ ap result_for e
 
     report_is : left.report ≡ r
     unfolding report_for
@@ -77,10 +63,10 @@ module _ (l : List ℕ) (c : TStdConfig) (lent left : Lent) (code : Code) (is : 
     surplus_is : surplus_in c left ≡ surplus_in c lent
     surplus_is = rw (sym count, row_is) (drop-append_seam fs (drop (length fs) lent.row))
 
-    by_accepted : Accepted l c lent left code
+    by_accepted : Accepted l c lent left told
     by_accepted =
         record {
-          told = code_accepted;
+          ok = told_accepted;
           completed = (tstd.record_accepts c (room_of lent) l r fs e).completed;
           finite = rw (report_is, chains_are) (tstd.accepted_finite c (room_of lent) l r fs e);
           bounded = rw (report_is, chains_are) (tstd.accepted_bounds c (room_of lent) l r fs e);
@@ -90,49 +76,49 @@ module _ (l : List ℕ) (c : TStdConfig) (lent left : Lent) (code : Code) (is : 
           surplus = surplus_is;
         }
 
-  by_outcome : (o : Outcome) → outcome_for l c lent ≡ o → Accepted l c lent left code ⊎ Refused l c lent left code
+  by_outcome : (o : Outcome) → outcome_for l c lent ≡ o → Accepted l c lent left told ⊎ Refused l c lent left told
   by_outcome (accepted r fs) e = inl (by_accepted r fs e)
   by_outcome (refused_with x) e = inr (by_refused x e)
 
   -- demand 1: a finished report without an infinite or not-a-number figure, or one of the ten refusals
-  pub finished : Accepted l c lent left code ⊎ Refused l c lent left code
+  pub finished : Accepted l c lent left told ⊎ Refused l c lent left told
   finished = by_outcome (outcome_for l c lent) refl
 
-  completed_by : code.number ≡ 0 → Accepted l c lent left code ⊎ Refused l c lent left code → Completed replay_limits c (room_of lent) l
+  completed_by : told ≡ Ok tt → Accepted l c lent left told ⊎ Refused l c lent left told → Completed replay_limits c (room_of lent) l
   completed_by z (inl a) = a.completed
-  completed_by z (inr b) = absurd (omega (arith, z, ap (λ (k : Code). k.number) b.told, refused_number b.refusal))
+  completed_by z (inr b) = let e = b.err in absurd cc
 
-  -- number 0 comes exactly where all packets and ends run
-  pub accepted_iff : (code.number ≡ 0) ↔ Completed replay_limits c (room_of lent) l
+  -- Ok comes exactly where all packets and ends run
+  pub accepted_iff : (told ≡ Ok tt) ↔ Completed replay_limits c (room_of lent) l
   accepted_iff = (
     λ z. completed_by z finished,
-    λ h. ap (λ (k : Code). k.number) (code_accepted _ _ ((laws.accepted_iff replay_limits c (room_of lent) l _ _).1 (h, refl))),
+    λ h. told_accepted _ _ ((laws.accepted_iff replay_limits c (room_of lent) l _ _).1 (h, refl)),
   )
 
-  condition_by : (x : Refusal) → code ≡ code_of x → Accepted l c lent left code ⊎ Refused l c lent left code → RefusedBy replay_limits c (room_of lent) l x
-  condition_by x e (inl a) = absurd (omega (arith, ap (λ (k : Code). k.number) (sym e ∙ a.told), refused_number x))
-  condition_by x e (inr b) = subst (RefusedBy replay_limits c (room_of lent) l) (code_injective b.refusal x (sym b.told ∙ e)) b.condition
+  condition_by : (x : Refusal) → told ≡ Err x → Accepted l c lent left told ⊎ Refused l c lent left told → RefusedBy replay_limits c (room_of lent) l x
+  condition_by x e (inl a) = let o = a.ok in absurd cc
+  condition_by x e (inr b) = let y = b.err in let same : b.refusal ≡ x = cc in subst (RefusedBy replay_limits c (room_of lent) l) same b.condition
 
   -- each of the ten refusals, with its place and PID, comes exactly under its condition
-  pub refused_iff : (x : Refusal) → (code ≡ code_of x) ↔ RefusedBy replay_limits c (room_of lent) l x
-  refused_iff x = (λ e. condition_by x e finished, λ h. code_refused x ((tstd.refused_iff replay_limits c (room_of lent) l x).1 h))
+  pub refused_iff : (x : Refusal) → (told ≡ Err x) ↔ RefusedBy replay_limits c (room_of lent) l x
+  refused_iff x = (λ e. condition_by x e finished, λ h. told_refused x ((tstd.refused_iff replay_limits c (room_of lent) l x).1 h))
 
 -- ---- the answers to two recordings, with one profile and one length of each part of work and row, whatever these and the report held before
-module _ (c : TStdConfig) (a b : List ℕ) (lent lent' left left' : Lent) (code code' : Code) (is : Analyzed a c lent left code) (is' : Analyzed b c lent' left' code') (room : room_of lent ≡ room_of lent') where
-  by_one : (o : Outcome) → outcome_for a c lent ≡ o → outcome_for b c lent' ≡ o → SameAnswer c code code' left left'
+module _ (c : TStdConfig) (a b : List ℕ) (lent lent' left left' : Lent) (told told' : Result Unit Refusal) (is : Analyzed a c lent left told) (is' : Analyzed b c lent' left' told') (room : room_of lent ≡ room_of lent') where
+  by_one : (o : Outcome) → outcome_for a c lent ≡ o → outcome_for b c lent' ≡ o → SameAnswer c told told' left left'
   by_one (accepted r fs) e e' =
       record {
-        one_code = code_accepted a c lent left code is r fs e ∙ sym (code_accepted b c lent' left' code' is' r fs e');
-        one_report = λ z. report_is a c lent left code is r fs e ∙ sym (report_is b c lent' left' code' is' r fs e');
-        one_row = λ z. chains_are a c lent left code is r fs e ∙ sym (chains_are b c lent' left' code' is' r fs e');
+        one_outcome = told_accepted a c lent left told is r fs e ∙ sym (told_accepted b c lent' left' told' is' r fs e');
+        one_report = λ z. report_is a c lent left told is r fs e ∙ sym (report_is b c lent' left' told' is' r fs e');
+        one_row = λ z. chains_are a c lent left told is r fs e ∙ sym (chains_are b c lent' left' told' is' r fs e');
       }
   by_one (refused_with x) e e' =
-      let told = code_refused a c lent left code is x e in
-      let never : code.number ≡ 0 → ⊥ = λ z. omega (arith, z, ap (λ (k : Code). k.number) told, refused_number x) in
-      record { one_code = told ∙ sym (code_refused b c lent' left' code' is' x e'); one_report = λ z. absurd (never z); one_row = λ z. absurd (never z) }
+      let err = told_refused a c lent left told is x e in
+      let never : told ≡ Ok tt → ⊥ = λ z. cc in
+      record { one_outcome = err ∙ sym (told_refused b c lent' left' told' is' x e'); one_report = λ z. absurd (never z); one_row = λ z. absurd (never z) }
 
   -- demand 3: recordings that differ only in content get the same answer
-  pub blind : OnlyContent (streams_read c) a b → SameAnswer c code code' left left'
+  pub blind : OnlyContent (streams_read c) a b → SameAnswer c told told' left left'
   blind only =
       by_one (outcome_for b c lent')
       (tstd.blind replay_limits c (room_of lent) a b only ∙ ap (λ (w : WorkSize). replay replay_limits c w (read_of (streams_read c) b)) room) refl
@@ -150,12 +136,8 @@ module _ (c : TStdConfig) (a b : List ℕ) (lent lent' left left' : Lent) (code 
   alike n (Refusal.RateOutsideLimits m) k h = absurd (omega (arith, k))
   alike n (Refusal.QueueFull m pid) k h = absurd (omega (arith, k))
 
-  by_three : length a ≡ length b → 1 ≤ code.number → code.number ≤ 3 → Accepted a c lent left code ⊎ Refused a c lent left code → code ≡ code'
-  by_three n some few (inl h) = absurd (omega (arith, some, ap (λ (k : Code). k.number) h.told))
-  by_three n some few (inr h) =
-      let small : (code_of h.refusal).number ≤ 3 = omega (arith, few, ap (λ (k : Code). k.number) h.told) in
-      h.told ∙ sym ((refused_iff b c lent' left' code' is' h.refusal).1 (rw (sym room) (alike n h.refusal small h.condition)))
-
   -- numbers 1 to 3 come alike whatever two recordings of one length hold
-  pub one_to_three : length a ≡ length b → 1 ≤ code.number → code.number ≤ 3 → code ≡ code'
-  one_to_three n some few = by_three n some few (finished a c lent left code is)
+  pub one_to_three : length a ≡ length b → (x : Refusal) → (code_of x).number ≤ 3 → told ≡ Err x → told ≡ told'
+  one_to_three n x few e =
+      let condition = (refused_iff a c lent left told is x).0 e in
+      e ∙ sym ((refused_iff b c lent' left' told' is' x).1 (rw (sym room) (alike n x few condition)))

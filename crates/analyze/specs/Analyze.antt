@@ -1,8 +1,8 @@
 -- What `analyze_tstd` answers and what it leaves in what the caller lends, by the outcome of the replay's definition.
+use Rattle.std.specs.Prelude.{Result, Ok, Err}
 use Rattle.std.specs.Prelude.{ℕ, ◌≡◌, List, ◌++◌, length, take, drop, Float}
 use Rattle.ieee.specs.Binary64.{0f}
-use Rattle.error.specs.declared.Code.{Code}
-use Rattle.error.specs.Code.{code_of, code_numbered}
+use Rattle.error.specs.declared.Refusal.{Refusal}
 use Rattle.report.specs.declared.TStdReport.{TStdReport}
 use Rattle.report.specs.declared.TStdChainStats.{TStdChainStats}
 use Rattle.profile.specs.declared.config.TStdConfig.{TStdConfig}
@@ -25,10 +25,10 @@ lending times places row report = record { times = times; places = places; row =
 abbrev pub outcome_for : List ℕ → TStdConfig → Lent → Outcome
 outcome_for l c lent = outcome_of l c (length lent.times) (length lent.places) (length lent.row)
 
--- number, place and PID
-unfoldable pub code_for : Outcome → Code
-code_for (accepted r fs) = code_numbered 0
-code_for (refused_with x) = code_of x
+-- accepted, or the refusal; `code_told` gives number, place and PID
+unfoldable pub result_for : Outcome → Result Unit Refusal
+result_for (accepted r fs) = Ok tt
+result_for (refused_with x) = Err x
 
 -- a refusal leaves the report as it was
 unfoldable pub report_for : Outcome → TStdReport → TStdReport
@@ -40,8 +40,8 @@ unfoldable pub row_for : Outcome → List TStdChainStats → List TStdChainStats
 row_for (accepted r fs) before = fs ++ drop (length fs) before
 row_for (refused_with x) before = before
 
-pub record Analyzed (l : List ℕ) (c : TStdConfig) (lent left : Lent) (code : Code) : Type 0 where
-  pub answer : code ≡ code_for (outcome_for l c lent)
+pub record Analyzed (l : List ℕ) (c : TStdConfig) (lent left : Lent) (told : Result Unit Refusal) : Type 0 where
+  pub answer : told ≡ result_for (outcome_for l c lent)
   pub report : left.report ≡ report_for (outcome_for l c lent) lent.report
   pub row : left.row ≡ row_for (outcome_for l c lent) lent.row
   -- numbers 1 to 4 leave the work unchanged; every other answer zeroes what the replay needs of it

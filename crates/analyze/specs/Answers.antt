@@ -1,8 +1,7 @@
 -- What is asked of an answer of `analyze_tstd`: accepted or refused, and when the answers to two recordings are the same.
+use Rattle.std.specs.Prelude.{Result, Ok, Err}
 use Rattle.std.specs.Prelude.{ℕ, ◌≡◌, List, length, take, drop}
 use Rattle.error.specs.declared.Refusal.{Refusal}
-use Rattle.error.specs.declared.Code.{Code}
-use Rattle.error.specs.Code.{code_of, code_numbered}
 use Rattle.report.specs.declared.TStdChainStats.{TStdChainStats}
 use Rattle.profile.specs.declared.config.TStdConfig.{TStdConfig}
 use Rattle.profile.specs.declared.work.WorkSize.{WorkSize}
@@ -28,9 +27,9 @@ chains_in c x = take (chain_count c) x.row
 abbrev pub surplus_in : TStdConfig → Lent → List TStdChainStats
 surplus_in c x = drop (chain_count c) x.row
 
--- number 0: all packets and ends ran; every figure of the report and of the chains is finite and within bounds; the row keeps its surplus
-pub record Accepted (l : List ℕ) (c : TStdConfig) (lent left : Lent) (code : Code) : Type 0 where
-  pub told : code ≡ code_numbered 0
+-- accepted: all packets and ends ran; every figure of the report and of the chains is finite and within bounds; the row keeps its surplus
+pub record Accepted (l : List ℕ) (c : TStdConfig) (lent left : Lent) (told : Result Unit Refusal) : Type 0 where
+  pub ok : told ≡ Ok tt
   pub completed : Completed replay_limits c (room_of lent) l
   pub finite : AnswerFinite left.report (chains_in c left)
   pub bounded : AnswerBounded left.report (chains_in c left)
@@ -40,15 +39,15 @@ pub record Accepted (l : List ℕ) (c : TStdConfig) (lent left : Lent) (code : C
   pub surplus : surplus_in c left ≡ surplus_in c lent
 
 -- one of the ten refusals, under its condition; report and row are as they were
-pub record Refused (l : List ℕ) (c : TStdConfig) (lent left : Lent) (code : Code) : Type 0 where
+pub record Refused (l : List ℕ) (c : TStdConfig) (lent left : Lent) (told : Result Unit Refusal) : Type 0 where
   pub refusal : Refusal
-  pub told : code ≡ code_of refusal
+  pub err : told ≡ Err refusal
   pub condition : RefusedBy replay_limits c (room_of lent) l refusal
   pub report_kept : left.report ≡ lent.report
   pub row_kept : left.row ≡ lent.row
 
--- number, place and PID; where the recordings are accepted also the whole report and the row's first records
-pub record SameAnswer (c : TStdConfig) (code code' : Code) (left left' : Lent) : Type 0 where
-  pub one_code : code ≡ code'
-  pub one_report : code.number ≡ 0 → left.report ≡ left'.report
-  pub one_row : code.number ≡ 0 → chains_in c left ≡ chains_in c left'
+-- both accepted, or one refusal; where the recordings are accepted also the whole report and the row's first records
+pub record SameAnswer (c : TStdConfig) (told told' : Result Unit Refusal) (left left' : Lent) : Type 0 where
+  pub one_outcome : told ≡ told'
+  pub one_report : told ≡ Ok tt → left.report ≡ left'.report
+  pub one_row : told ≡ Ok tt → chains_in c left ≡ chains_in c left'

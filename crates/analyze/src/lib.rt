@@ -5,7 +5,7 @@ ghost use Rattle.std.specs.Prelude.{◌≡◌, ◌≤◌, length};
 ghost use Rattle.analyze.specs.Analyze.{written, lending, Analyzed};
 
 use answer::Figures;
-use error::Code;
+use error::Refusal;
 use profile::TStdConfig;
 use report::{TStdChainStats, TStdReport};
 
@@ -19,8 +19,8 @@ fn fill_row(row: &mut [TStdChainStats], figures: Figures)
     row[..n].copy_from_slice(&figures.rows[..n]);
 }
 
-// Number 0 is an accepted recording: its report, and its figures at the front of the row. Any other number leaves both as they were.
-// Ruled out: the row handed back untouched with number 0; a cleared report with any other number.
+// Ok is an accepted recording: its report, and its figures at the front of the row. A refusal leaves both as they were.
+// Ruled out: the row handed back untouched with Ok; a cleared report with a refusal.
 pub fn analyze_tstd(
     bytes: &[u8],
     config: TStdConfig,
@@ -28,13 +28,14 @@ pub fn analyze_tstd(
     places: &mut [u64],
     row: &mut [TStdChainStats],
     report: &mut TStdReport,
-) -> Code
+) -> Result<(), Refusal>
     ensures { Analyzed bytes.now config
         (lending times.old places.old row.old report.old)
         (lending times.new places.new row.new report.new) result }
 {
     let out = tstd::replay(bytes, config, times, places, row.len(), *report);
     *report = out.report;
-    fill_row(row, out.figures);
-    out.code
+    let figures = out.outcome?;
+    fill_row(row, figures);
+    Ok(())
 }

@@ -1,10 +1,10 @@
-// What a replay answers: number, place and PID, the report, and the figures of the chains.
+// What a replay answers: the figures of the chains or a refusal, and the report.
 #![tactic(auto)]
 
 ghost use Rattle.std.specs.Prelude.{◌≡◌, []};
 ghost use Rattle.answer.specs.Answer.{figures_of, refused_answer};
 
-use error::{Code, Refusal};
+use error::Refusal;
 use report::{TStdChainStats, TStdReport};
 
 // One record per stream, one more if there are system PIDs: 9 at most, of which the first count are in use.
@@ -15,12 +15,10 @@ pub struct Figures {
     pub count: usize,
 }
 
-// Number 0 is an accepted recording.
 #[derive(Clone, Copy)]
 pub struct Answer {
-    pub code: Code,
+    pub outcome: Result<Figures, Refusal>,
     pub report: TStdReport,
-    pub figures: Figures,
 }
 
 impl Figures {
@@ -38,15 +36,14 @@ impl Figures {
 }
 
 impl Answer {
-    // The report as it came, and no figures. Ruled out: a cleared report; figures of a refused recording.
+    // The report as it came. Ruled out: a cleared report; another refusal.
     #[tactic(auto, unfolding(crate::specs::Answer::refused_answer))]
     pub fn refused(report: TStdReport, refusal: Refusal) -> Answer
         ensures { result ≡ refused_answer report refusal }
     {
         Answer {
-            code: refusal.code(),
+            outcome: Err(refusal),
             report,
-            figures: Figures::new(),
         }
     }
 }

@@ -1,5 +1,5 @@
 -- What a refusal gives (document 01): number, place and PID of each case.
-use Rattle.std.specs.Prelude.{ℕ}
+use Rattle.std.specs.Prelude.{ℕ, Result, Ok, Err}
 use Rattle.error.specs.declared.Refusal.{Refusal}
 use Rattle.error.specs.declared.Code.{Code}
 
@@ -21,3 +21,8 @@ code_of (Refusal.RepeatedPcr sample) = code_placed 7 sample
 code_of (Refusal.ClockFull depth) = code_placed 8 depth
 code_of (Refusal.RateOutsideLimits sample) = code_placed 9 sample
 code_of (Refusal.QueueFull packet pid) = record { number = 10; place = packet; pid = pid }
+
+-- number 0 where nothing was refused
+abbrev pub code_told : {A : Type 0} → Result A Refusal → Code
+code_told (Ok x) = code_numbered 0
+code_told (Err x) = code_of x

@@ -2,7 +2,7 @@
 #![tactic(auto)]
 
 ghost use Rattle.std.specs.Prelude.{◌≡◌};
-ghost use Rattle.error.specs.Code.{code_of, code_numbered, code_placed};
+ghost use Rattle.error.specs.Code.{code_of, code_told, code_numbered, code_placed};
 
 #[derive(Clone, Copy, Debug, PartialEq, Eq)]
 pub enum Refusal {
@@ -71,6 +71,18 @@ impl Refusal {
                 place: packet,
                 pid,
             },
+        }
+    }
+}
+
+impl Code {
+    // What is told of an outcome. Ruled out: number 0 for a refusal; a number other than 0 where nothing was refused.
+    pub fn told<T: Copy>(outcome: Result<T, Refusal>) -> Code
+        ensures { result ≡ code_told outcome }
+    {
+        match outcome {
+            Ok(_) => numbered(0),
+            Err(refusal) => refusal.code(),
         }
     }
 }

@@ -1,5 +1,7 @@
 -- The text of an answer (document 01, the line program).
-use Rattle.std.specs.Prelude.{ℕ, cond, List, [], ◌∷◌, ◌++◌, take, eqb}
+use Rattle.std.specs.Prelude.{ℕ, List, [], ◌∷◌, ◌++◌, take, Result, Ok, Err}
+use Rattle.error.specs.declared.Refusal.{Refusal}
+use Rattle.error.specs.Code.{code_of}
 use Rattle.error.specs.declared.Code.{Code}
 use Rattle.report.specs.declared.violation.Figure.{Figure}
 use Rattle.report.specs.declared.violation.Figure.TheVariants.{Bytes, Seconds}
@@ -58,6 +60,9 @@ chain_lines f = each chain_line (take f.count f.rows)
 unfoldable pub accepted_text : TStdReport → Figures → List ℕ
 accepted_text r f = report_line r ++ (violation_lines r ++ chain_lines f)
 
--- number 0 is an accepted recording
+unfoldable pub outcome_text : Result Figures Refusal → TStdReport → List ℕ
+outcome_text (Ok figures) r = accepted_text r figures
+outcome_text (Err x) r = refused_line (code_of x)
+
 unfoldable pub text_of : Answer → List ℕ
-text_of a = cond (eqb a.code.number 0) (accepted_text a.report a.figures) (refused_line a.code)
+text_of a = outcome_text a.outcome a.report

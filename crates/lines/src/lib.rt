@@ -16,12 +16,15 @@ pub fn write(answer: Answer, out: &mut [u8]) -> usize
     ensures { (result ≡ min (length (text_of answer)) (length out.old)) × (out.new ≡ filled out.old (text_of answer)) × (length (text_of answer) ≤ 8618) }
 {
     let mut text = Text { out, at: 0 };
-    if answer.code.number != 0 {
-        text.refused_line(answer.code);
-        return text.at;
-    }
+    let figures = match answer.outcome {
+        Ok(figures) => figures,
+        Err(refusal) => {
+            text.refused_line(refusal.code());
+            return text.at;
+        }
+    };
     text.report_line(answer.report);
     text.violation_lines(answer.report);
-    text.chain_lines(answer.figures);
+    text.chain_lines(figures);
     text.at
 }

@@ -20,7 +20,7 @@ use Rattle.report.specs.declared.Recorded.{Recorded}
 use Rattle.report.specs.Violation.{key_of, same_key, merge_of}
 use Rattle.report.specs.Keys.{has_key}
 use Rattle.report.specs.Record.{keys_of, record_line, lines_of, most_events, refuses, with_lines, recorded, record_code}
-use Rattle.report.specs.Report.{answer_code}
+use Rattle.error.specs.Code.{code_told}
 
 -- no line before i has the key of v
 pub record Searched (r : TStdReport) (v : TStdViolation) (i : ℕ) : Type 0 where
@@ -166,10 +166,10 @@ length_of_map X Y f l n p = sym (length-map l f) ∙ p
 
 -- ---- the answer's number
 
-code_by : (r : TStdReport) (v : TStdViolation) (b : Bool) → refuses r v ≡ b → answer_code (recorded r v).answer ≡ record_code r v
-unfolding recorded record_code answer_code
+code_by : (r : TStdReport) (v : TStdViolation) (b : Bool) → refuses r v ≡ b → code_told (recorded r v).answer ≡ record_code r v
+unfolding recorded record_code
 code_by r v true e = rw e
 code_by r v false e = rw e
 
-pub told : (r : TStdReport) (v : TStdViolation) {x : Recorded} → x ≡ recorded r v → (x ≡ recorded r v) × (answer_code x.answer ≡ record_code r v)
-told r v e = (e, ap (λ (y : Recorded). answer_code y.answer) e ∙ code_by r v (refuses r v) refl)
+pub told : (r : TStdReport) (v : TStdViolation) {x : Recorded} → x ≡ recorded r v → (x ≡ recorded r v) × (code_told x.answer ≡ record_code r v)
+told r v e = (e, ap (λ (y : Recorded). code_told y.answer) e ∙ code_by r v (refuses r v) refl)

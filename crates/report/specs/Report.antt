@@ -1,14 +1,10 @@
 -- The report before any event, the figures of a chain before any packet, and conformance.
 use Rattle.std.specs.Prelude.{ℕ, Bool, replicate, eqb}
 use Rattle.ieee.specs.Binary64.{0f}
-use Rattle.error.specs.Code.{code_of, code_numbered}
-use Rattle.error.specs.declared.Code.{Code}
-use Rattle.error.specs.declared.Refusal.{Refusal}
 use Rattle.report.specs.declared.violation.TStdViolation.TheVariants.{TbOverflow}
 use Rattle.report.specs.declared.ViolationLine.{ViolationLine}
 use Rattle.report.specs.declared.TStdReport.{TStdReport}
 use Rattle.report.specs.declared.TStdChainStats.{TStdChainStats}
-use Rattle.std.specs.Prelude.{Result, Ok, Err}
 
 -- what an unused record holds
 abbrev pub unused_line : ViolationLine
@@ -23,8 +19,3 @@ empty_stats p = record { pid = p; peak_tb_bytes = 0; peak_main_bytes = 0; peak_e
 -- the table has no lines
 abbrev pub conformant : TStdReport → Bool
 conformant r = eqb r.violation_count 0
-
--- number, place and PID of what recording answers: 0, 0, 0 where the event was taken
-unfoldable pub answer_code : Result Unit Refusal → Code
-answer_code (Ok u) = code_numbered 0
-answer_code (Err r) = code_of r

@@ -2,7 +2,8 @@
 #![tactic(auto)]
 
 ghost use Rattle.std.specs.Prelude.{◌≡◌};
-ghost use Rattle.report.specs.Report.{empty_report, empty_stats, conformant, answer_code};
+ghost use Rattle.report.specs.Report.{empty_report, empty_stats, conformant};
+ghost use Rattle.error.specs.Code.{code_told};
 ghost use Rattle.report.specs.Record.{recorded, record_code};
 
 pub mod violation;
@@ -90,7 +91,7 @@ impl TStdReport {
     // events at 2^64 - 1: number 1 and the report as it came. Ruled out: an event merged and not counted; a refusal that
     // changes the report. All in one function, so that the table is not copied for a call.
     pub fn record(mut self, v: TStdViolation) -> Recorded
-        ensures { (result ≡ recorded self v) × (answer_code result.answer ≡ record_code self v) }
+        ensures { (result ≡ recorded self v) × (code_told result.answer ≡ record_code self v) }
     {
         let count = self.violation_count;
         if self.violation_events == u64::MAX || 64 < count {
@@ -132,7 +133,7 @@ impl TStdReport {
 
 // `record` on a report that the caller lends. Ruled out: the report left as it was; another answer than `record` gives.
 pub fn record_in(report: &mut TStdReport, v: TStdViolation) -> Result<(), Refusal>
-    ensures { (report.new ≡ (recorded report.old v).report) × (result ≡ (recorded report.old v).answer) × (answer_code result ≡ record_code report.old v) }
+    ensures { (report.new ≡ (recorded report.old v).report) × (result ≡ (recorded report.old v).answer) × (code_told result ≡ record_code report.old v) }
 {
     let r = report.record(v);
     *report = r.report;

@@ -3,7 +3,7 @@
 #![tactic(auto)]
 
 use answer::{Answer, Figures};
-use error::{Code, Refusal};
+use error::Refusal;
 use report::{TStdChainStats, TStdReport, TStdViolation};
 use std::io;
 
@@ -23,13 +23,8 @@ fn show_cut(rt: &impl Print, answer: Answer) -> io::Result<()> {
 
 fn accepted(report: TStdReport, figures: Figures) -> Answer {
     Answer {
-        code: Code {
-            number: 0,
-            place: 0,
-            pid: 0,
-        },
+        outcome: Ok(figures),
         report,
-        figures,
     }
 }
 

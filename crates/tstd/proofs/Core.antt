@@ -4,7 +4,6 @@ use Rattle.std.proofs.Common.{◌≡◌, ℕ, suc, ◌+◌, ◌-◌, ◌*◌, �
 use lib.Ieee.{Float, lt}
 use Rattle.ieee.specs.Binary64.{◌⊖◌, 0f}
 use Rattle.error.specs.declared.Refusal.{Refusal}
-use Rattle.error.specs.Code.{code_numbered}
 use Rattle.packet.specs.declared.TsPacketLayout.{TsPacketLayout}
 use Rattle.std.specs.Prelude.{Option, Some, None, Result, Ok, Err}
 use Rattle.std.specs.Option.{ok_or}
@@ -66,7 +65,7 @@ module _ (c : TStdConfig) (r : RanState) where
       → seconds ≡ cond (lt r.times.first_time r.times.last_time) (r.times.last_time ⊖ r.times.first_time) 0f
       → fs ≡ figures_of (rows_from 0 (streams_of c) r.tbs r.mains r.videos ++ system_rows c r.system)
       → ◌≡◌ {A = Answer} (record {
-        code = code_numbered 0;
+        outcome = Ok fs;
         report = record {
           violations = x.violations;
           violation_count = x.violation_count;
@@ -74,7 +73,6 @@ module _ (c : TStdConfig) (r : RanState) where
           pcr_samples = samples;
           modelled_seconds = seconds;
         };
-        figures = fs;
       }) (accepted_of c r samples)
   unfolding accepted_of accepted_answer report_in
   accepted_made samples sl x seconds fs e f g h = rw (f, e, g, h) refl

@@ -15,7 +15,7 @@ ghost use Rattle.ieee.specs.Binary64.{◌⊖◌, 0f};
 ghost use Rattle.tstd.specs.Core.{accepted_of, queue_full, Fitting, ReplayedAt, Ended, Replayed};
 
 use answer::Answer;
-use error::{Code, Refusal};
+use error::Refusal;
 use packet::TsPacketLayout;
 use profile::{Limits, TStdConfig, WorkSize};
 use report::TStdReport;
@@ -44,14 +44,10 @@ fn accepted(config: TStdConfig, ran: Ran, samples: usize) -> Answer
     let mut report = summary::report_of(config, firsts, slots);
     report.pcr_samples = samples as u64;
     report.modelled_seconds = modelled_seconds(ran.times.first_time, ran.times.last_time);
+    let figures = figures::figures(config, ran.tbs, ran.mains, ran.videos, ran.system);
     Answer {
-        code: Code {
-            number: 0,
-            place: 0,
-            pid: 0,
-        },
+        outcome: Ok(figures),
         report,
-        figures: figures::figures(config, ran.tbs, ran.mains, ran.videos, ran.system),
     }
 }
 
@@ -119,7 +115,7 @@ fn outcome(
     answer
 }
 
-// The report is the replay's where number 0 is answered, else the one lent; row_len is the length of the row that the figures are for.
+// The report is the replay's where the recording is accepted, else the one lent; row_len is the length of the row that the figures are for.
 // Numbers 1 to 4 leave the work as it is; any other answer leaves zeros in what the replay needs of it, and the rest as it was.
 // Ruled out: a clean report or empty figures whatever the recording holds; number 10 for a recording whose queues have room.
 pub fn replay(

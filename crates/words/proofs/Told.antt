@@ -1,27 +1,10 @@
 -- The words of an answer, refused and accepted, and what one word gives back. Assumes nothing.
-use Prim.Native.Nat.{ℕ, ◌/◌, ◌%◌, ◌^◌, ◌≤◌, ◌<◌}
+use Prim.Native.Nat.{◌/◌, ◌%◌, ◌^◌, ◌≤◌, ◌<◌}
 use mathlib.Core.Path.{◌≡◌}
-use mathlib.Core.List.{List}
 use native.Mathlib.Nat.{min-eq_left, min-le_right}
 use native.Mathlib.Omega.{arith}
-use borrow.Author.Tests.{eq-eqb, ne_eqb}
 use Rattle.error.specs.declared.Code.{Code}
-use Rattle.answer.specs.declared.Answer.{Answer}
-use Rattle.words.specs.Bits.{bits_of}
-use Rattle.words.specs.Row.{chains_of, row_after}
-use Rattle.words.specs.Report.{report_after}
-use Rattle.words.specs.Answer.{most_place, answer_word, row_told, report_told, Told}
-
-module _ (a : Answer) (told : ℕ) (word : told ≡ answer_word a.code) (row ws : List ℕ) where
-  pub told_refused : (a.code.number ≡ 0 → ⊥) → Told a told row row ws ws
-  unfolding row_told report_told
-  told_refused h =
-      record { word = word; row = rw (ne_eqb a.code.number 0 h); report = rw (ne_eqb a.code.number 0 h) }
-
-  pub told_accepted : a.code.number ≡ 0 → (row₁ ws₁ : List ℕ) → row₁ ≡ row_after (chains_of a.figures) row → ws₁ ≡ report_after bits_of a.report ws → Told a told row row₁ ws ws₁
-  unfolding row_told report_told
-  told_accepted h row₁ ws₁ p q =
-      record { word = word; row = rw (eq-eqb a.code.number 0 h) p; report = rw (eq-eqb a.code.number 0 h) q }
+use Rattle.words.specs.Answer.{most_place, answer_word}
 
 -- a code whose fields the word holds is read back from it
 module _ (c : Code) (number : c.number < 256) (pid : c.pid < 65536) where

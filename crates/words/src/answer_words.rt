@@ -22,9 +22,9 @@ pub fn answer_word(code: Code) -> u64
 pub fn write_answer(answer: Answer, row: &mut [u64], report: &mut [u64]) -> u64
     ensures { Told answer result row.old row.new report.old report.new }
 {
-    if answer.code.number == 0 {
-        write_row(answer.figures, row);
+    if let Ok(figures) = answer.outcome {
+        write_row(figures, row);
         write_report::<Finite>(answer.report, report);
     }
-    answer_word(answer.code)
+    answer_word(Code::told(answer.outcome))
 }

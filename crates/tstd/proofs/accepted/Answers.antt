@@ -15,4 +15,4 @@ returns c =
       | then-config-gt0 w ↦ last_some a.config a.ran _ w.if-config-gt0.true (rw (w.firsts-is, w.slots-is) w.note_tb.ensures)
       | else-config-gt0 w ↦ last_none a.config a.ran _ w.if-config-gt0.false (rw (w.firsts-is, w.slots-is) refl)
     ] in
-    accepted_made a.config a.ran a.samples (slots x.firsts x.slots) _ _ _ sl c.report_of-report.ensures c.modelled_seconds.ensures c.figures.ensures
+    accepted_made a.config a.ran a.samples (slots x.firsts x.slots) _ _ _ sl c.report_of-report.ensures c.modelled_seconds.ensures c.figures-figures.ensures

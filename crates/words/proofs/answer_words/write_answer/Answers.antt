@@ -1,12 +1,14 @@
--- `write_answer` meets its contract. Each branch is a case of `Told`. Assumes nothing.
-use mathlib.Core.Path.{◌∙◌}
-use Rattle.words.proofs.Told.{told_refused, told_accepted}
+-- `write_answer` meets its contract, by the outcome.
+use Rattle.std.proofs.Common.{◌∙◌, ap}
+use Rattle.words.specs.Answer.{answer_word, row_told, report_told}
 use Rattle.words.proofs.answer_words.write_answer.Goals as goal
-use Rattle.words.proofs.answer_words.write_answer.Goals.{then-answer-eq0, else-answer-eq0}
+use Rattle.words.proofs.answer_words.write_answer.Goals.{in-Ok, in_default}
 
 pub returns : goal.returns
+unfolding row_told report_told
 returns c =
-    elim c.if-answer-eq0.branch [
-      | then-answer-eq0 w ↦ told_accepted _ _ c.answer_word.ensures _ _ w.if-answer-eq0.true _ _ (w.row-is ∙ w.write_row.ensures) (w.report-is ∙ w.write_report.ensures)
-      | else-answer-eq0 w ↦ rw (w.row-is, w.report-is) (told_refused _ _ c.answer_word.ensures _ _ w.if-answer-eq0.false)
+    let word = c.answer_word.ensures ∙ ap answer_word c.told.ensures in
+    elim c.match-answer.branch [
+      | in-Ok w ↦ record { word = word; row = rw w.in-Ok.is (w.row-is ∙ w.write_row.ensures); report = rw w.in-Ok.is (w.report-is ∙ w.write_report.ensures) }
+      | in_default w ↦ record { word = word; row = rw w.in_default.is w.row-is; report = rw w.in_default.is w.report-is }
     ]
