@@ -24,6 +24,7 @@ pub enum Refusal {
     QueueFull { packet: u64, pid: u16 },
 }
 
+// What the C boundary and the text tell of a refusal. The number is theirs; inside the code a refusal is the enum.
 #[derive(Clone, Copy, Debug, PartialEq, Eq)]
 pub struct Code {
     pub number: u8,

@@ -9,6 +9,7 @@ use scanner::{PesHeader, PesScanner, Runs, StampBytes};
 // The words of a state. They stay a slice: as an array of 15 they would be another list than the definition reads.
 const STATE_WORDS: usize = 15;
 
+// The low byte: `u8::try_from` would refuse a larger word.
 fn byte(word: u64) -> u8
     ensures { result ≡ word % 256 }
 {

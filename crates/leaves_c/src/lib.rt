@@ -14,6 +14,7 @@ ghost use Rattle.leaves.specs.Packet.{parse_leaf};
 ghost use Rattle.leaves.specs.Record.{Records};
 ghost use Rattle.leaves.specs.Scanner.{Feeds};
 
+// Each is a C name of its own, with the clauses of the leaf that it calls.
 #[unsafe(no_mangle)]
 pub extern "C" fn leaf_extend_near(raw: u64, reference: u64, out: &mut [u64]) -> u64
     ensures { Told (stamp_leaf (extend_near raw reference)) result out.old out.new }
@@ -70,6 +71,7 @@ pub extern "C" fn leaf_fifo_push(state: &mut [f64], from: f64, to: f64, bytes: f
     leaves::fifo_leaf::leaf_fifo_push(state, from, to, bytes, out);
 }
 
+// C tells a constructor by a number.
 #[unsafe(no_mangle)]
 pub extern "C" fn leaf_model(kind: u64, a: u64, b: u64, c: u64, out: &mut [u64]) -> u64
     ensures { Told (model_leaf (model_by kind a b c)) result out.old out.new }

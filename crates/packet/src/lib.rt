@@ -111,7 +111,7 @@ fn byte_or_zero(raw: &[u8], at: usize) -> u8
     raw.get(at).copied().unwrap_or(0)
 }
 
-// A field of n bytes from a place on, if it is there, ends within the limit.
+// A field of n bytes from a place on, if it is there, ends within the limit. Whether it is there is its flag, as in the table.
 fn ends_within(on: bool, limit: usize, at: usize, n: usize) -> Result<(), Truncated>
     requires { (at < 1000) × (n < 1000) }
     ensures { result ≡ wants limit on at n (Ok tt) }
@@ -143,6 +143,7 @@ fn clock_base(p0: u8, p1: u8, p2: u8, p3: u8, p4: u8) -> u64
         + u64::from(p4 / 128)
 }
 
+// Not one function with `pid_of`: another field, of another width.
 fn clock_extension(p4: u8, p5: u8) -> u16
     ensures { result ≡ p4 % 2 * 256 + p5 }
 {
@@ -519,7 +520,7 @@ fn on_grid(buf: &[u8], size: usize, off: usize) -> bool
     true
 }
 
-// The layout of a recording by its first packets.
+// The layout of a recording by its first packets; the tests stand in the order in which they are tried.
 // Ruled out: a layout on one whole packet; one whose second packet has no sync byte.
 pub fn detect_packet_layout(buf: &[u8]) -> Option<TsPacketLayout>
     ensures { result ≡ layout_of buf.now }

@@ -116,6 +116,7 @@ fn stamp_bytes(flags: u8) -> usize
     }
 }
 
+// Whether a unit has the optional header is asked once of its stream id, and handed to the three functions that depend on it.
 #[tactic(auto, unfolding(crate::specs::Unit::stamp_end_by))]
 fn stamp_end(optional: bool, flags: u8, length: u8) -> usize
     ensures { result ≡ stamp_end_by optional flags length }

@@ -20,7 +20,7 @@ const BEFORE: u64 = 99;
 
 const NEGATIVE_ZERO: u64 = 9223372036854775808;
 
-// The number of an answer that is equal, and the case's length in the list.
+// The number of an answer that is equal, as the list has it, and the case's length there.
 #[derive(Clone, Copy)]
 struct Seen {
     number: usize,

@@ -62,6 +62,7 @@ fn profile_fits(words: &[u64; PROFILE_WORDS]) -> bool
         && system_fits(words, system)
 }
 
+// A profile in words tells the kind of a branch by a number.
 #[tactic(auto, unfolding(crate::specs::Config::branch_of))]
 fn branch_of(kind: u64, a: u64, b: u64, c: u64) -> TStdBranch
     ensures { result ≡ branch_of kind a b c }
