@@ -1,4 +1,4 @@
-// The optional parts of an adaptation field that have two words: 0 and 0 where the part is not there.
+// The optional parts of an adaptation field in words, two or one: 0 where the part is not there.
 ghost use Rattle.std.specs.Prelude.{◌≡◌};
 ghost use Rattle.leaves.specs.Packet.{clock_words, countdown_word, private_words, ltw_words, splice_words};
 

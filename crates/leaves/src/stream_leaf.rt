@@ -5,6 +5,7 @@ ghost use Rattle.packet.specs.Layout.{layout_of};
 ghost use Rattle.leaves.specs.Leaves.{flag_word, size_found};
 
 use crate::put::flag;
+
 // Ruled out: 1 for an id without the header; a word other than 0 and 1.
 #[unsafe(no_mangle)]
 pub extern "C" fn leaf_optional_header(id: u8) -> u64

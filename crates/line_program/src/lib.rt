@@ -24,7 +24,7 @@ const QUEUE_DEPTH: usize = 128;
 
 const CLOCK_DEPTH: usize = 64;
 
-// What the profile needs with its one stream, and a record each for the stream and the system chain (`profile::TStdConfig::check`).
+// What the profile needs with its one stream, and a record each for the stream and the system chain (`profile::check`).
 const TIMES: usize = 8 * QUEUE_DEPTH + 3 * CLOCK_DEPTH;
 
 const PLACES: usize = 2 * CLOCK_DEPTH;

@@ -89,6 +89,7 @@ impl From<Truncated> for TsError {
 
     ghost from_gives = { λ t e. e ≡ TsError.Truncated t };
 
+    // Ruled out: a bad sync byte; have and need exchanged.
     fn from(t: Truncated) -> TsError {
         TsError::Truncated(t)
     }
@@ -385,7 +386,7 @@ fn parse_adaptation_field(raw: &[u8]) -> Result<AdaptationField, Truncated>
 }
 
 // Where the payload begins, by byte 3 and the end of header and adaptation field.
-// Ruled out: payload start 4 in a packet that has no payload; byte 188 in one that has.
+// Ruled out: payload start 4 in a packet that has no payload; 188 in place of `from` in one that has.
 pub fn payload_start_of(b3: u8, from: usize) -> usize
     ensures { result ≡ cond (eqb (b3 / 16 % 2) 1) from 188 }
 {

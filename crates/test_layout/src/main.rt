@@ -17,7 +17,7 @@ fn number(rt: &impl Print, n: u64) -> io::Result<()> {
     print!(rt; ",{n}")
 }
 
-// A bool and a byte are printed as numbers: two calls of one line each.
+// Not one generic function with `byte`: both are one line.
 fn mark(rt: &impl Print, b: bool) -> io::Result<()> {
     number(rt, u64::from(b))
 }

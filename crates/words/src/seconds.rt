@@ -1,11 +1,11 @@
-// The bits of a figure in seconds. Those of a not-a-number the language leaves open, so each teller says which it gives.
+// The bits of a figure in seconds. Those of a not-a-number the language leaves open, so each type says which it gives.
 ghost use Rattle.std.specs.Prelude.{◌≡◌, ℕ, Float};
 ghost use Rattle.words.specs.Bits.{bits_of};
 
 pub trait SecondsWord {
     ghost told: { Float → ℕ };
 
-    // Ruled out: one word for two figures that are told apart; the bits of a binary32.
+    // Ruled out: the word of another figure; another word for a not-a-number than the type says.
     fn word(seconds: f64) -> u64
         ensures { result ≡ told seconds };
 }
