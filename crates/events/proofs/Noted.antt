@@ -9,7 +9,8 @@ use lib.Seq.{get_or-set_other}
 use lib.Ieee.{Float}
 use borrow.Author.Tests.{lt-ltb, le-ltb, eq-eqb, ne_eqb}
 use Rattle.events.specs.Event.{Event, when, kind_of, figure_of, decode_of}
-use Rattle.events.specs.Slots.{Slots, writable, first_in_slot, later_in_slot, noted, noted_if, noted_all}
+use Rattle.events.specs.declared.Slots.{Slots}
+use Rattle.events.specs.Slots.{writable, first_in_slot, later_in_slot, noted, noted_if, noted_all}
 
 -- the events of two lists
 pub noted_all_append_lem : (k : ℕ) (es fs : List Event) (s : Slots) → noted_all k (es ++ fs) s ≡ noted_all k fs (noted_all k es s)

@@ -1,17 +1,19 @@
 -- The slots of a replay's events: the count, and of each slot the number of its first event, its largest figure and its first decode time.
-use Rattle.std.specs.Prelude.{ℕ, ◌+◌, Bool, cond, ◌&&◌, List, [], ◌∷◌, get_or, set, ltb, eqb, Float}
+-- firsts: the count at 0, and the number of slot k's first event at k, 0 for none. figures: slot k's largest figure at k, and its first
+-- decode time at 64 + k.
+use Rattle.std.specs.Prelude.{ℕ, ◌+◌, Bool, cond, ◌&&◌, List, [], ◌∷◌, get_or, set, replicate, ltb, eqb, Float}
 use Rattle.std.specs.Float.{nan}
+use Rattle.ieee.specs.Binary64.{0f}
 use Rattle.ieee.specs.MaxMin.{max_num}
+use Rattle.events.specs.declared.Slots.{Slots}
 use Rattle.events.specs.Event.{Event, kind_of, figure_of, decode_of}
-
-pub record Slots : Type 0 where
-  -- the count at 0, and the number of slot k's first event at k: 0 for none
-  pub firsts : List ℕ
-  -- slot k's largest figure at k, and its first decode time at 64 + k
-  pub figures : List Float
 
 abbrev pub slots : List ℕ → List Float → Slots
 slots firsts figures = record { firsts = firsts; figures = figures }
+
+-- before the first event
+abbrev pub no_events : Slots
+no_events = slots (replicate 64 0) (replicate 128 0f)
 
 -- there is a slot k, and the count is not at its end
 unfoldable pub writable : ℕ → Slots → Bool

@@ -1,6 +1,6 @@
--- `events::note_if` meets its contract. Assumes nothing.
+-- `events::Slots::note_if` meets its contract. Assumes nothing.
 use Rattle.events.specs.Slots.{noted_if}
-use Rattle.events.proofs.note_if.Goals as goal
+use Rattle.events.proofs.Slots.note_if.Goals as goal
 
 pub returns-then-found : goal.returns-then-found
 unfolding noted_if
