@@ -10,7 +10,8 @@ use lib.Ieee.{Float, lt, ne, eq}
 use Rattle.ieee.specs.Binary64.{◌⊕◌, ◌⊖◌, -∞, 0f, 1f}
 use Rattle.ieee.specs.MaxMin.{max_of}
 use Rattle.events.specs.Event.{overflow, kind_of, figure_of, decode_of}
-use Rattle.events.specs.Slots.{Slots, noted_if}
+use Rattle.events.specs.declared.Slots.{Slots}
+use Rattle.events.specs.Slots.{noted_if}
 use Rattle.events.proofs.Noted.{noted_all_when_lem}
 use Rattle.branch.specs.declared.Run.{Run}
 use Rattle.branch.specs.declared.AccessUnit.{AccessUnit}

@@ -9,7 +9,8 @@ use lib.Dec.{eqb}
 use lib.Ieee.{Float}
 use borrow.Author.Tests.{ltb-true, leb-true, lt-ltb, le-leb}
 use Rattle.ieee.specs.Binary64.{+∞}
-use Rattle.events.specs.Slots.{Slots, noted_all}
+use Rattle.events.specs.declared.Slots.{Slots}
+use Rattle.events.specs.Slots.{noted_all}
 use Rattle.events.proofs.Noted.{noted_all_append_lem}
 use Rattle.branch.specs.declared.Delivered.{Delivered}
 use Rattle.branch.specs.declared.main_branch.MainModel.{MainModel}

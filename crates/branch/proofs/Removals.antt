@@ -8,7 +8,8 @@ use lib.Ieee.{Float, lt}
 use Rattle.ieee.specs.Binary64.{◌⊕◌, ◌⊖◌, 0f, 1f, 1e-6f}
 use Rattle.ieee.specs.MaxMin.{max_of, min_of}
 use Rattle.events.specs.Event.{Event, overflow, underflow, delay, when, kind_of, figure_of, decode_of}
-use Rattle.events.specs.Slots.{Slots, noted_if, noted_all}
+use Rattle.events.specs.declared.Slots.{Slots}
+use Rattle.events.specs.Slots.{noted_if, noted_all}
 use Rattle.events.proofs.Noted.{noted_all_append_lem, noted_all_when_lem}
 use Rattle.branch.specs.declared.AccessUnit.{AccessUnit}
 use Rattle.branch.specs.declared.inflow.Arrived.{Arrived}

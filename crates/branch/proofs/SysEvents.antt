@@ -5,7 +5,8 @@ use native.Mathlib.Nat.{add-zero}
 use lib.Ieee.{Float, lt}
 use Rattle.ieee.specs.Binary64.{◌⊕◌, 0f, 1f, 1536f}
 use Rattle.events.specs.Event.{overflow, kind_of, figure_of, decode_of}
-use Rattle.events.specs.Slots.{Slots, noted_if, noted_all}
+use Rattle.events.specs.declared.Slots.{Slots}
+use Rattle.events.specs.Slots.{noted_if, noted_all}
 use Rattle.events.proofs.Noted.{noted_all_when_lem}
 use Rattle.branch.specs.declared.Run.{Run}
 use Rattle.branch.specs.declared.sys_branch.SysBranch.{SysBranch}

@@ -11,7 +11,8 @@ use lib.Ieee.{Float, lt, ne, eq}
 use Rattle.ieee.specs.Binary64.{◌⊕◌, ◌⊘◌, 0f, 1f, 2f, 1e-6f}
 use Rattle.ieee.specs.MaxMin.{max_of}
 use Rattle.events.specs.Event.{when, mb_busy}
-use Rattle.events.specs.Slots.{Slots, noted_all}
+use Rattle.events.specs.declared.Slots.{Slots}
+use Rattle.events.specs.Slots.{noted_all}
 use Rattle.events.proofs.Noted.{noted_all_append_lem}
 use Rattle.branch.specs.declared.Delivered.{Delivered}
 use Rattle.branch.specs.declared.video_branch.VideoModel.{VideoModel}

@@ -20,7 +20,8 @@ use Rattle.branch.specs.declared.video_branch.Turned.{Turned as TurnState}
 use Rattle.branch.specs.CumulativeIn.{Inflow, settle, arrived_by, time_of_cumulative}
 use Rattle.branch.specs.VideoBranch.{VideoRates, Transfer, transfer, Leak, mb_fullness, eb_room, since_seen, longest_seen, looked, stalled, gone, Turned, on, break, arriving, pace_take, filled, paced, backlog_take, backlogged, step, turn, turns, ran, started, closed, leak_until, leak_events}
 use Rattle.events.specs.Event.{Event, overflow, when}
-use Rattle.events.specs.Slots.{Slots, noted_all}
+use Rattle.events.specs.declared.Slots.{Slots}
+use Rattle.events.specs.Slots.{noted_all}
 use Rattle.branch.specs.VideoInWork.{rates_of, flow_of, leak_of, Transferred, LeakLies, LeakIs, SettledAt, TurnIs, TurnsEnd, settled_leak, ReachedBy, closed_state, ClosedBy, LeaksTo}
 use Rattle.branch.proofs.Settling.{settle_again, arrived_again}
 

@@ -7,7 +7,8 @@ use Rattle.std.specs.Float.Ieee.{lt, le, eq}
 use Rattle.ieee.specs.Binary64.{◌⊕◌, ◌⊖◌, 0f, 1f, 1e-6f, -∞}
 use Rattle.ieee.specs.MaxMin.{max_of}
 use Rattle.events.specs.Event.{Event, overflow, underflow, delay, mb_busy, when}
-use Rattle.events.specs.Slots.{Slots, noted_all}
+use Rattle.events.specs.declared.Slots.{Slots}
+use Rattle.events.specs.Slots.{noted_all}
 use Rattle.branch.specs.declared.Run.{Run}
 use Rattle.branch.specs.declared.AccessUnit.{AccessUnit}
 use Rattle.branch.specs.declared.Delivered.{Delivered}

@@ -2,7 +2,7 @@
 ghost use Rattle.std.specs.Prelude.{◌≡◌, cond, ◌+◌, ◌*◌, ◌≤◌, ◌<◌};
 ghost use Rattle.std.specs.Float.Ieee.{ne};
 ghost use Rattle.ieee.specs.Binary64.{ -∞, +∞};
-ghost use Rattle.events.specs.Slots.{slots, noted_all};
+ghost use Rattle.events.specs.Slots.{noted_all};
 ghost use Rattle.branch.specs.Queue.{Lies, place_of, floats_at};
 ghost use Rattle.branch.specs.MainBranch.{removal_events, drain as drainDef, look_at_end, fed, close_au, open_unit, stamp_of, add_run, deliver as deliverDef};
 ghost use Rattle.branch.specs.MainInWork.{new_branch, floats_of_unit, no_unit, runs_place, units_place, unit_of, main_of, BranchLies, ready as readyDef, RemovedTo, DrainedTo, FedTo, StepOf, CloseOf};
@@ -10,6 +10,7 @@ ghost use Rattle.branch.specs.MainInWork.{new_branch, floats_of_unit, no_unit, r
 use crate::inflow::CumulativeIn;
 use crate::queue::{Place, Ring, entry, pop, push};
 use crate::{AccessUnit, Delivered, Run};
+use events::Slots;
 
 // What does not change: BSn in bytes, and where the chain's part of the work begins, with the depth of its two rings.
 #[derive(Clone, Copy)]
@@ -102,39 +103,22 @@ fn note_removal(
     fullness: f64,
     required: f64,
     u: AccessUnit,
-    firsts: &mut [u64; 64],
-    figures: &mut [f64; 128],
+    slots: &mut Slots,
     k: usize,
 )
     requires { k < 64 }
-    ensures { slots firsts.new figures.new ≡ noted_all k (removal_events size arrived fullness required u) (slots firsts.old figures.old) }
+    ensures { slots.new ≡ noted_all k (removal_events size arrived fullness required u) slots.old }
 {
     let at = u.decode_time;
-    events::note_if(
-        firsts,
-        figures,
-        fullness > size + 1.0,
-        k + events::OVERFLOW,
-        fullness,
-        0.0,
-    );
-    events::note_if(
-        firsts,
-        figures,
+    slots.note_if(fullness > size + 1.0, k + events::OVERFLOW, fullness, 0.0);
+    slots.note_if(
         arrived + 1.0 < required,
         k + events::UNDERFLOW,
         required - arrived,
         at,
     );
     let delay = at - u.first_input_time;
-    events::note_if(
-        firsts,
-        figures,
-        delay > 1.0 + 1e-6,
-        k + events::DELAY,
-        delay,
-        at,
-    );
+    slots.note_if(delay > 1.0 + 1e-6, k + events::DELAY, delay, at);
 }
 
 // One unit, already off the ring, is removed.
@@ -143,27 +127,17 @@ fn remove(
     p: MainModel,
     work: &[f64],
     u: AccessUnit,
-    firsts: &mut [u64; 64],
-    figures: &mut [f64; 128],
+    slots: &mut Slots,
     k: usize,
 ) -> MainBranch
     requires lies { Lies 3 work.now (runs_place p) b.inflow.runs }
     requires k_bound { (k < 64) × (b.access_units < 18446744073709551615) }
-    ensures { RemovedTo work.now p b u k (slots firsts.old figures.old) result (slots firsts.new figures.new) }
+    ensures { RemovedTo work.now p b u k slots.old result slots.new }
 {
     let got = b.inflow.arrived_by(runs_place(p), work, u.decode_time);
     let fullness = got.total - b.removed;
     let required = b.required + u.bytes;
-    note_removal(
-        p.buffer_size,
-        got.total,
-        fullness,
-        required,
-        u,
-        firsts,
-        figures,
-        k,
-    );
+    note_removal(p.buffer_size, got.total, fullness, required, u, slots, k);
     MainBranch {
         inflow: got.inflow,
         required,
@@ -181,13 +155,12 @@ fn drain(
     p: MainModel,
     work: &[f64],
     frontier: f64,
-    firsts: &mut [u64; 64],
-    figures: &mut [f64; 128],
+    slots: &mut Slots,
     k: usize,
 ) -> MainBranch
     requires branch_lies { BranchLies work.now p b }
     requires k_bound { (k < 64) × (b.access_units + b.pending.count ≤ 18446744073709551615) }
-    ensures { DrainedTo work.now p k (slots firsts.old figures.old) (drainDef p.buffer_size frontier (main_of work.now p b)) result (slots firsts.new figures.new) }
+    ensures { DrainedTo work.now p k slots.old (drainDef p.buffer_size frontier (main_of work.now p b)) result slots.new }
 {
     let w = units_place(p);
     let mut m = b;
@@ -197,28 +170,19 @@ fn drain(
             break;
         }
         m.pending = pop(m.pending, w);
-        m = remove(m, p, work, u, firsts, figures, k);
+        m = remove(m, p, work, u, slots, k);
     }
     m
 }
 
 // The fullness of all that arrives.
-fn look_at_end(
-    b: MainBranch,
-    p: MainModel,
-    work: &[f64],
-    firsts: &mut [u64; 64],
-    figures: &mut [f64; 128],
-    k: usize,
-) -> MainBranch
+fn look_at_end(b: MainBranch, p: MainModel, work: &[f64], slots: &mut Slots, k: usize) -> MainBranch
     requires branch_lies { BranchLies work.now p b }
     requires k_bound { k < 64 }
-    ensures { DrainedTo work.now p k (slots firsts.old figures.old) (look_at_end p.buffer_size (main_of work.now p b)) result (slots firsts.new figures.new) }
+    ensures { DrainedTo work.now p k slots.old (look_at_end p.buffer_size (main_of work.now p b)) result slots.new }
 {
     let fullness = b.inflow.final_total(runs_place(p), work) - b.removed;
-    events::note_if(
-        firsts,
-        figures,
+    slots.note_if(
         fullness > p.buffer_size + 1.0,
         k + events::OVERFLOW,
         fullness,
@@ -405,11 +369,10 @@ impl MainBranch {
         d: Delivered,
         end: bool,
         t: f64,
-        firsts: &mut [u64; 64],
-        figures: &mut [f64; 128],
+        slots: &mut Slots,
         k: usize,
     ) -> Stepped
-        ensures { StepOf work.old p self d end t k (slots firsts.old figures.old) result work.new (slots firsts.new figures.new) }
+        ensures { StepOf work.old p self d end t k slots.old result work.new slots.new }
     {
         if !ready(self, p, work.len(), k) {
             return Stepped {
@@ -421,11 +384,11 @@ impl MainBranch {
         if s.full {
             return s;
         }
-        let m = drain(s.branch, p, work, frontier(end, t), firsts, figures, k);
+        let m = drain(s.branch, p, work, frontier(end, t), slots, k);
         if end {
             return Stepped {
                 full: false,
-                branch: look_at_end(m, p, work, firsts, figures, k),
+                branch: look_at_end(m, p, work, slots, k),
             };
         }
         deliver(m, p, work, d)

@@ -1,9 +1,10 @@
 // `SysBranch`: the system data buffer Bsys, of 1536 bytes, which drains at Rsys all the time (H.222.0, 2.4.2.3).
 ghost use Rattle.std.specs.Prelude.{◌≡◌};
-ghost use Rattle.events.specs.Slots.{slots, noted_all};
+ghost use Rattle.events.specs.Slots.{noted_all};
 ghost use Rattle.branch.specs.SysBranch.{new_sys, rsys_of, since as sinceDef, idled as idledDef, filled as filledDef, push_sys, sys_events};
 
 use crate::Run;
+use events::Slots;
 
 // The time of the last byte is -infinity before the first run: floats alone, no Option.
 #[derive(Clone, Copy)]
@@ -60,18 +61,11 @@ impl SysBranch {
 
     // A run goes into Bsys, at the rate around its time; an overflow goes to slot k.
     // Ruled out: an overflow at 1536 bytes without the byte of tolerance; the gap before the first run drained.
-    pub fn push(
-        self,
-        run: Run,
-        rate: f64,
-        firsts: &mut [u64; 64],
-        figures: &mut [f64; 128],
-        k: usize,
-    ) -> SysBranch
-        ensures { (result ≡ push_sys self run rate) × (slots firsts.new figures.new ≡ noted_all k (sys_events self run rate) (slots firsts.old figures.old)) }
+    pub fn push(self, run: Run, rate: f64, slots: &mut Slots, k: usize) -> SysBranch
+        ensures { (result ≡ push_sys self run rate) × (slots.new ≡ noted_all k (sys_events self run rate) slots.old) }
     {
         let fullness = filled(self, run, rate);
-        events::note_if(firsts, figures, fullness > 1536.0 + 1.0, k, fullness, 0.0);
+        slots.note_if(fullness > 1536.0 + 1.0, k, fullness, 0.0);
         SysBranch {
             fullness,
             last_time: run.t1,

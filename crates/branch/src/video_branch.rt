@@ -4,7 +4,7 @@ ghost use Rattle.std.specs.Prelude.{◌≡◌, true, false, cond, Float, Some, �
 ghost use Rattle.std.specs.Float.{inf, binary64};
 ghost use Rattle.std.specs.Float.Ieee.{eq, sub};
 ghost use Rattle.ieee.specs.MaxMin.{max_of};
-ghost use Rattle.events.specs.Slots.{slots, noted_all};
+ghost use Rattle.events.specs.Slots.{noted_all};
 ghost use Rattle.branch.specs.Queue.{Lies};
 ghost use Rattle.branch.specs.VideoBranch.{overlap as overlapOf, since_seen, longest_seen, eb_room, mb_fullness, looked, stalled as stalledOf, paced as pacedOf, backlogged as backloggedOf, break, step as step_of, ran, advance as advanceOf};
 ghost use Rattle.branch.specs.VideoInWork.{rates_of, flow_of, leak_of, HeadersBy, Transferred, LeakLies, LeakIs, LooksBy, TurnIs, SettledAt, TurnsEnd, ReachedBy, ClosedBy, LeaksTo, video_of, VideoLies, DueOf, removal_events, RemovedBy, AdvancedTo, chain_of, Apart, VideoFedTo, QueuedTo, MarkedTo, layout_of, ready as readyOf, SteppedTo, StepOf, CloseOf, BusyNoted, new_branch};
@@ -15,7 +15,7 @@ use crate::inflow::CumulativeIn;
 use crate::main_branch::{entry_of, is_open, no_unit, unit_at};
 use crate::queue::{Place, Ring, entry, pop, push};
 use crate::{AccessUnit, Delivered, HeaderMark, Run};
-use events::{DELAY, MB_BUSY, OVERFLOW, UNDERFLOW, note_if};
+use events::{DELAY, MB_BUSY, OVERFLOW, Slots, UNDERFLOW};
 use ieee::{max, min};
 
 // What does not change: the rate Rbxn in bytes a second, the sizes MBSn and EBSn in bytes, and where the chain's part of the work begins,
@@ -333,27 +333,12 @@ fn reached(s: Turned, m: VideoLayout, work: &[f64], t: f64) -> (Leak, f64)
 }
 
 // Behind the turns: MBn's peak, its overflow and its busy stretch at t, where total has arrived.
-fn closed(
-    l: Leak,
-    m: VideoLayout,
-    total: f64,
-    t: f64,
-    firsts: &mut [u64; 64],
-    figures: &mut [f64; 128],
-    k: usize,
-) -> Leak
+fn closed(l: Leak, m: VideoLayout, total: f64, t: f64, slots: &mut Slots, k: usize) -> Leak
     requires { k ≤ 64 }
-    ensures { ClosedBy m l total t k (slots firsts.old figures.old) (slots firsts.new figures.new) result }
+    ensures { ClosedBy m l total t k slots.old slots.new result }
 {
     let fullness = total - l.flow.transferred;
-    note_if(
-        firsts,
-        figures,
-        fullness > m.mb_size + 1.0,
-        k + OVERFLOW,
-        fullness,
-        0.0,
-    );
+    slots.note_if(fullness > m.mb_size + 1.0, k + OVERFLOW, fullness, 0.0);
     Leak {
         longest_busy: longest_until(l.longest_busy, l.busy_since, t),
         mb_peak: max(l.mb_peak, fullness),
@@ -363,25 +348,17 @@ fn closed(
 }
 
 // The leak up to t; the first call only sets the clock.
-fn leak_until(
-    l: Leak,
-    m: VideoLayout,
-    work: &[f64],
-    t: f64,
-    firsts: &mut [u64; 64],
-    figures: &mut [f64; 128],
-    k: usize,
-) -> Leak
+fn leak_until(l: Leak, m: VideoLayout, work: &[f64], t: f64, slots: &mut Slots, k: usize) -> Leak
     requires leak_lies { LeakLies work.now m l }
     requires k_bound { k ≤ 64 }
-    ensures { LeaksTo work.now m t k (slots firsts.old figures.old) (slots firsts.new figures.new) (leak_of work.now m l) result }
+    ensures { LeaksTo work.now m t k slots.old slots.new (leak_of work.now m l) result }
 {
     if l.proc_time == f64::NEG_INFINITY {
         return Leak { proc_time: t, ..l };
     }
     let s = turns(l, m, work, t);
     let (leak, total) = reached(s, m, work, t);
-    closed(leak, m, total, t, firsts, figures, k)
+    closed(leak, m, total, t, slots, k)
 }
 
 // The branch behind the transport buffer; the unit whose bytes still arrive has a decode time of -infinity where there is none, so that
@@ -413,45 +390,24 @@ fn next_due(q: Ring, w: Place, work: &[f64], frontier: f64) -> Option<AccessUnit
 }
 
 // The events of a removal.
-fn note_removal(
-    eb_in: f64,
-    required: f64,
-    u: AccessUnit,
-    firsts: &mut [u64; 64],
-    figures: &mut [f64; 128],
-    k: usize,
-)
+fn note_removal(eb_in: f64, required: f64, u: AccessUnit, slots: &mut Slots, k: usize)
     requires { k ≤ 64 }
-    ensures { slots firsts.new figures.new ≡ noted_all k (removal_events eb_in required u) (slots firsts.old figures.old) }
+    ensures { slots.new ≡ noted_all k (removal_events eb_in required u) slots.old }
 {
     let at = u.decode_time;
-    note_if(
-        firsts,
-        figures,
-        eb_in + 1.0 < required,
-        k + UNDERFLOW,
-        required - eb_in,
-        at,
-    );
+    slots.note_if(eb_in + 1.0 < required, k + UNDERFLOW, required - eb_in, at);
     let delay = at - u.first_input_time;
-    note_if(firsts, figures, delay > 1.0 + 1e-6, k + DELAY, delay, at);
+    slots.note_if(delay > 1.0 + 1e-6, k + DELAY, delay, at);
 }
 
 // The first pending unit, u, is removed from EBn.
-fn remove(
-    b: VideoBranch,
-    m: VideoLayout,
-    u: AccessUnit,
-    firsts: &mut [u64; 64],
-    figures: &mut [f64; 128],
-    k: usize,
-) -> VideoBranch
+fn remove(b: VideoBranch, m: VideoLayout, u: AccessUnit, slots: &mut Slots, k: usize) -> VideoBranch
     requires head_lt_depth { (b.pending.head < m.units.depth) × (0 < b.pending.count) }
     requires k_bound { (k ≤ 64) × (b.access_units < 18446744073709551615) }
-    ensures { RemovedBy m b u k (slots firsts.old figures.old) (slots firsts.new figures.new) result }
+    ensures { RemovedBy m b u k slots.old slots.new result }
 {
     let required = b.eb_required + u.bytes;
-    note_removal(b.leak.flow.eb_in, required, u, firsts, figures, k);
+    note_removal(b.leak.flow.eb_in, required, u, slots, k);
     VideoBranch {
         leak: Leak {
             flow: Flow {
@@ -474,13 +430,12 @@ fn advance(
     m: VideoLayout,
     work: &[f64],
     frontier: f64,
-    firsts: &mut [u64; 64],
-    figures: &mut [f64; 128],
+    slots: &mut Slots,
     k: usize,
 ) -> VideoBranch
     requires video_lies { VideoLies work.now m b }
     requires k_bound { (k ≤ 64) × (b.access_units + b.pending.count ≤ 18446744073709551615) }
-    ensures { AdvancedTo work.now m k b.open_au (slots firsts.old figures.old) (advanceOf (rates_of m) frontier (video_of work.now m b)) result (slots firsts.new figures.new) }
+    ensures { AdvancedTo work.now m k b.open_au slots.old (advanceOf (rates_of m) frontier (video_of work.now m b)) result slots.new }
 {
     let mut cur = b;
     loop {
@@ -489,11 +444,11 @@ fn advance(
             Some(u) => u.decode_time,
             None => frontier,
         };
-        cur.leak = leak_until(cur.leak, m, work, to, firsts, figures, k);
+        cur.leak = leak_until(cur.leak, m, work, to, slots, k);
         let Some(u) = due else {
             return cur;
         };
-        cur = remove(cur, m, u, firsts, figures, k);
+        cur = remove(cur, m, u, slots, k);
     }
 }
 
@@ -705,19 +660,12 @@ fn layout(p: VideoModel) -> VideoLayout
 }
 
 // The busy stretch of MBn, looked at once at the end.
-fn note_busy(b: VideoBranch, firsts: &mut [u64; 64], figures: &mut [f64; 128], k: usize) -> Stepped
+fn note_busy(b: VideoBranch, slots: &mut Slots, k: usize) -> Stepped
     requires { k ≤ 64 }
-    ensures { BusyNoted b k (slots firsts.old figures.old) result (slots firsts.new figures.new) }
+    ensures { BusyNoted b k slots.old result slots.new }
 {
     let longest = b.leak.longest_busy;
-    note_if(
-        firsts,
-        figures,
-        longest > 1.0 + 1e-6,
-        k + MB_BUSY,
-        longest,
-        0.0,
-    );
+    slots.note_if(longest > 1.0 + 1e-6, k + MB_BUSY, longest, 0.0);
     Stepped {
         full: false,
         branch: b,
@@ -732,22 +680,21 @@ fn chain_step(
     d: Delivered,
     end: bool,
     t: f64,
-    firsts: &mut [u64; 64],
-    figures: &mut [f64; 128],
+    slots: &mut Slots,
     k: usize,
 ) -> Stepped
     requires video_lies { VideoLies work.old m b }
     requires apart { Apart m × ((k ≤ 64) × ((b.access_units < 9223372036854775808) × (m.runs.depth ≤ 1152921504606846976))) }
-    ensures { SteppedTo work.old m k (slots firsts.old figures.old) (video_step (rates_of m) m.runs.depth d end t (chain_of work.old m b)) result work.new (slots firsts.new figures.new) }
+    ensures { SteppedTo work.old m k slots.old (video_step (rates_of m) m.runs.depth d end t (chain_of work.old m b)) result work.new slots.new }
 {
     let s = close_au(b, m, work, end);
     if s.full {
         return s;
     }
     let f = frontier(s.branch, m, end, t);
-    let a = advance(s.branch, m, work, f, firsts, figures, k);
+    let a = advance(s.branch, m, work, f, slots, k);
     if end {
-        return note_busy(a, firsts, figures, k);
+        return note_busy(a, slots, k);
     }
     deliver(a, m, work, d)
 }
@@ -809,14 +756,13 @@ impl VideoBranch {
         d: Delivered,
         end: bool,
         t: f64,
-        firsts: &mut [u64; 64],
-        figures: &mut [f64; 128],
+        slots: &mut Slots,
         k: usize,
     ) -> Stepped
-        ensures { StepOf work.old p self d end t k (slots firsts.old figures.old) result work.new (slots firsts.new figures.new) }
+        ensures { StepOf work.old p self d end t k slots.old result work.new slots.new }
     {
         if ready(self, p, work.len(), k) {
-            return chain_step(self, layout(p), work, d, end, t, firsts, figures, k);
+            return chain_step(self, layout(p), work, d, end, t, slots, k);
         }
         Stepped {
             full: false,
