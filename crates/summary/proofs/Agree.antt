@@ -15,7 +15,8 @@ use Rattle.report.specs.Keys.{all_in}
 use Rattle.report.proofs.Fold.{lines_all, events_all, unused_all, samples_all, seconds_all}
 use Rattle.profile.specs.declared.config.TStdConfig.{TStdConfig}
 use Rattle.events.specs.Event.{Event, figure_of, decode_of}
-use Rattle.events.specs.Slots.{Slots, noted, noted_all}
+use Rattle.events.specs.declared.Slots.{Slots}
+use Rattle.events.specs.Slots.{noted, noted_all}
 use Rattle.summary.specs.Violation.{violation_of, slot_of, slot_violation}
 use Rattle.summary.specs.Summary.{Found, found, violations_of, empty_slots, noted_found, Legal, first_slots, violation_in, slot_violations, with_events, summary}
 use Rattle.summary.specs.Keys.{possible_keys}

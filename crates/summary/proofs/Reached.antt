@@ -14,7 +14,8 @@ use Rattle.ieee.specs.MaxMin.{max_num}
 use Rattle.report.specs.declared.ViolationLine.{ViolationLine}
 use Rattle.report.specs.Record.{record_line, record_lines, most_events}
 use Rattle.profile.specs.declared.config.TStdConfig.{TStdConfig}
-use Rattle.events.specs.Slots.{Slots, first_in_slot, later_in_slot, noted}
+use Rattle.events.specs.declared.Slots.{Slots}
+use Rattle.events.specs.Slots.{first_in_slot, later_in_slot, noted}
 use Rattle.events.proofs.Noted.{noted_first, noted_later}
 use Rattle.summary.specs.Violation.{slot_violation}
 use Rattle.summary.specs.Summary.{empty_slots, first_slots, violation_in, slot_violations}

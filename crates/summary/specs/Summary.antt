@@ -1,7 +1,6 @@
 -- The report made from the slots: the violation of each slot that has events, in the order of their first events, and the count.
-use Rattle.std.specs.Prelude.{ℕ, zero, suc, ◌+◌, ◌<◌, cond, List, [], ◌∷◌, ◌++◌, map, get_or, drop, replicate, Float}
+use Rattle.std.specs.Prelude.{ℕ, zero, suc, ◌+◌, ◌<◌, cond, List, [], ◌∷◌, ◌++◌, map, get_or, drop, Float}
 use Rattle.std.specs.Float.{nan}
-use Rattle.ieee.specs.Binary64.{0f}
 use Rattle.report.specs.declared.violation.TStdViolation.{TStdViolation}
 use Rattle.report.specs.declared.TStdReport.{TStdReport}
 use Rattle.report.specs.Report.{empty_report}
@@ -9,7 +8,8 @@ use Rattle.report.specs.Record.{record_all}
 use Rattle.profile.specs.declared.config.TStdConfig.{TStdConfig}
 use Rattle.profile.specs.Owner.{contains, first_index}
 use Rattle.events.specs.Event.{Event, figure_of, decode_of}
-use Rattle.events.specs.Slots.{Slots, slots, noted}
+use Rattle.events.specs.declared.Slots.{Slots}
+use Rattle.events.specs.Slots.{no_events, noted}
 use Rattle.summary.specs.Violation.{violation_of, slot_of, slot_violation, SecondsAboveZero}
 
 -- ---- an event with its chain
@@ -27,7 +27,7 @@ violations_of c (f ∷ fs) = violation_of c f.chain f.event ∷ violations_of c 
 
 -- the slots before any event, and after the events of a list
 abbrev pub empty_slots : Slots
-empty_slots = slots (replicate 64 0) (replicate 128 0f)
+empty_slots = no_events
 
 unfoldable pub noted_found : List Found → Slots → Slots
 noted_found [] s = s

@@ -3,12 +3,11 @@
 #![tactic(auto)]
 
 ghost use Rattle.std.specs.Prelude.{◌≡◌};
-ghost use Rattle.events.specs.Slots.{slots};
 ghost use Rattle.summary.specs.Violation.{overflow_in, underflow_in, stream_violation, system_violation, system_pid, event_of, slot_violation};
 ghost use Rattle.summary.specs.Next.{NextSlot};
 ghost use Rattle.summary.specs.Summary.{summary};
 
-use events::{DELAY, OVERFLOW, TB_BUSY, TB_OVERFLOW, UNDERFLOW};
+use events::{DELAY, OVERFLOW, Slots, TB_BUSY, TB_OVERFLOW, UNDERFLOW};
 use profile::{TStdBranch, TStdConfig, TStdStream};
 use report::{TStdReport, TStdViolation};
 
@@ -141,16 +140,16 @@ fn next_slot(firsts: [u64; 64], after: u64) -> Option<usize>
 }
 
 // Ruled out: lines in the order of the slots; the count of lines as the count of events.
-pub fn report_of(config: TStdConfig, firsts: [u64; 64], figures: [f64; 128]) -> TStdReport
-    ensures { result ≡ summary config (slots firsts figures) }
+pub fn report_of(config: TStdConfig, slots: Slots) -> TStdReport
+    ensures { result ≡ summary config slots }
 {
     let mut report = TStdReport::new();
     let mut after = 0;
-    while let Some(k) = next_slot(firsts, after) {
-        let recorded = report.record(violation(config, k, figures[k], figures[64 + k]));
+    while let Some(k) = next_slot(slots.firsts, after) {
+        let recorded = report.record(violation(config, k, slots.figures[k], slots.figures[64 + k]));
         report = recorded.report;
-        after = firsts[k];
+        after = slots.firsts[k];
     }
-    report.violation_events = firsts[0];
+    report.violation_events = slots.firsts[0];
     report
 }

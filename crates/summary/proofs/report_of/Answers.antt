@@ -4,15 +4,15 @@ use Rattle.summary.proofs.Summed.{sum_starts, sum_next, sum_ends, sum_less}
 use Rattle.summary.proofs.report_of.Goals as goal
 
 pub loop-k-init : goal.loop-k-init
-loop-k-init c = rw c.new-report.ensures (sum_starts _ _ _)
+loop-k-init c = rw c.new-report.ensures (sum_starts _ _)
 
 pub loop-k-smaller : goal.loop-k-smaller
-loop-k-smaller c = sum_less _ _ _ _ _ c.loop-k.invariant _ (rw c.in-Some.is at c.next_slot.ensures)
+loop-k-smaller c = sum_less _ _ _ _ c.loop-k.invariant _ (rw c.in-Some.is at c.next_slot.ensures)
 
 pub loop-k-preserved : goal.loop-k-preserved
 loop-k-preserved c =
     rw (c.record-recorded.ensures.0, c.violation.ensures)
-    (sum_next _ _ _ _ _ c.loop-k.invariant _ (rw c.in-Some.is at c.next_slot.ensures))
+    (sum_next _ _ _ _ c.loop-k.invariant _ (rw c.in-Some.is at c.next_slot.ensures))
 
 pub returns : goal.returns
-returns c = sum_ends _ _ _ _ _ c.loop-k.invariant (rw c.in_default.is at c.next_slot.ensures)
+returns c = sum_ends _ _ _ _ c.loop-k.invariant (rw c.in_default.is at c.next_slot.ensures)

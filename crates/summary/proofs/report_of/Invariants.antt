@@ -6,7 +6,7 @@ use Rattle.summary.proofs.Summed.{Summed}
 use Rattle.summary.proofs.report_of.Given as goal
 
 abbrev pub invariant-loop-k : goal.invariant-loop-k
-invariant-loop-k l = Summed l.config l.firsts l.figures l.report l.after
+invariant-loop-k l = Summed l.config l.slots l.report l.after
 
 abbrev pub decreases-loop-k : goal.decreases-loop-k
-decreases-loop-k l = get_or l.firsts 0 0 - l.after
+decreases-loop-k l = get_or l.slots.firsts 0 0 - l.after
