@@ -3,7 +3,8 @@ use Rattle.std.proofs.Common.{◌≡◌, ℕ, suc, ◌+◌, ◌*◌, ◌^◌, �
 use lib.Ieee.{Float, to_unsigned}
 use Rattle.ieee.specs.Binary64.{◌⊘◌, 8f}
 use Rattle.fifo.specs.FluidFifo.{new}
-use Rattle.events.specs.Slots.{Slots, noted_all}
+use Rattle.events.specs.declared.Slots.{Slots}
+use Rattle.events.specs.Slots.{noted_all}
 use Rattle.branch.specs.declared.Delivered.{Delivered}
 use Rattle.branch.specs.declared.main_branch.MainModel.{MainModel}
 use Rattle.branch.specs.declared.main_branch.MainBranch.{MainBranch}

@@ -19,7 +19,8 @@ use Rattle.arrival.proofs.Within.{Counted}
 use Rattle.arrival_clock.specs.Clock.{parses_from, pass_over, Answers}
 use Rattle.arrival_clock.proofs.Clock.{build_keeps, build_refused, build_intervals, build_counted, build_room, build_bounded}
 use Rattle.arrival_clock.proofs.Facts.{samples_read_lem}
-use Rattle.events.specs.Slots.{Slots, slots, noted_all}
+use Rattle.events.specs.declared.Slots.{Slots}
+use Rattle.events.specs.Slots.{noted_all}
 use Rattle.branch.proofs.Rings.{outside_wider}
 use Rattle.report.specs.declared.TStdReport.{TStdReport}
 use Rattle.answer.specs.declared.Answer.{Answer}
@@ -51,13 +52,13 @@ use Rattle.tstd.proofs.Sound.{report_lines}
 
 module _ (c : TStdConfig) (r : RanState) where
   -- the slots with the system chain's transport buffer
-  pub last_none : (sl : Slots) → c.system_count ≤ 0 → sl ≡ slots r.firsts r.figures → sl ≡ last_slots c r
+  pub last_none : (sl : Slots) → c.system_count ≤ 0 → sl ≡ r.slots → sl ≡ last_slots c r
   unfolding last_slots
   last_none sl h e =
       let z : c.system_count ≡ 0 = omega arith in
       rw (eq-eqb c.system_count 0 z) e
 
-  pub last_some : (sl : Slots) → 0 < c.system_count → sl ≡ noted_all 49 (tb_events r.system.tb) (slots r.firsts r.figures) → sl ≡ last_slots c r
+  pub last_some : (sl : Slots) → 0 < c.system_count → sl ≡ noted_all 49 (tb_events r.system.tb) r.slots → sl ≡ last_slots c r
   unfolding last_slots
   last_some sl h e = rw (ne_eqb c.system_count 0 (λ z. omega arith)) e
 

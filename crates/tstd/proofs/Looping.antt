@@ -12,7 +12,8 @@ use Rattle.header.proofs.Headers.{parsed_packet, unparsed_fails}
 use Rattle.recording.specs.Read.{packet_at}
 use Rattle.arrival.specs.Work.{start_of_arrival, next_arrival, holds}
 use Rattle.arrival.proofs.Covering.{starts}
-use Rattle.events.specs.Slots.{Slots, slots, noted_all}
+use Rattle.events.specs.declared.Slots.{Slots}
+use Rattle.events.specs.Slots.{noted_all}
 use Rattle.branch.specs.SysBranch.{rsys_of, sys_events}
 use Rattle.branch.specs.declared.main_branch.MainModel.{MainModel}
 use Rattle.branch.specs.declared.main_branch.MainBranch.{MainBranch}
@@ -273,10 +274,10 @@ module _ (g : Pass) (ready : Ready g) (k at : ℕ) (isFull : Bool) (w : List Flo
       -- with the packets behind it that no chain takes
       module _ (owners : List ℕ) (is-owners : OwnersOf pids owners) where
         pub skip_again : {t : Times} {at' k' : ℕ} → Skips g.recording g.layout.packet_size g.count owners times' at k t at' k'
-            → (w₂ : List Float) (ts₂ : List FluidFifo) (ss₂ : List PesScanner) (ms₂ : List MainBranch) (vs₂ : List VideoBranch) (system₂ : SystemChain) (firsts₂ : List ℕ) (figures₂ : List Float) (full₂ : Bool)
-            → w₂ ≡ w → ts₂ ≡ ts → ss₂ ≡ ss → ms₂ ≡ ms → vs₂ ≡ vs → system₂ ≡ system → slots firsts₂ figures₂ ≡ sl → full₂ ≡ isFull
-            → LoopInv g (k' + 1) (at' + g.layout.packet_size) full₂ w₂ ts₂ ss₂ ms₂ vs₂ system₂ t (slots firsts₂ figures₂)
-        skip_again x w₂ ts₂ ss₂ ms₂ vs₂ system₂ firsts₂ figures₂ full₂ ew et ez em ev es el ef =
+            → (w₂ : List Float) (ts₂ : List FluidFifo) (ss₂ : List PesScanner) (ms₂ : List MainBranch) (vs₂ : List VideoBranch) (system₂ : SystemChain) (sl₂ : Slots) (full₂ : Bool)
+            → w₂ ≡ w → ts₂ ≡ ts → ss₂ ≡ ss → ms₂ ≡ ms → vs₂ ≡ vs → system₂ ≡ system → sl₂ ≡ sl → full₂ ≡ isFull
+            → LoopInv g (k' + 1) (at' + g.layout.packet_size) full₂ w₂ ts₂ ss₂ ms₂ vs₂ system₂ t sl₂
+        skip_again x w₂ ts₂ ss₂ ms₂ vs₂ system₂ sl₂ full₂ ew et ez em ev es el ef =
             record {
               ready = ready;
               loop = rw (ew, et, ez, em, ev, es, el)
@@ -310,10 +311,10 @@ module _ (g : Pass) (ready : Ready g) (k at : ℕ) (isFull : Bool) (w : List Flo
       system_turn : Turned g ready k s w ts ss ms vs system' times' sl'
       system_turn = system_by_moment moment
 
-      pub system_again : (w₂ : List Float) (ts₂ : List FluidFifo) (ss₂ : List PesScanner) (ms₂ : List MainBranch) (vs₂ : List VideoBranch) (system₂ : SystemChain) (firsts₂ : List ℕ) (figures₂ : List Float) (full₂ : Bool)
-          → w₂ ≡ w → ts₂ ≡ ts → ss₂ ≡ ss → ms₂ ≡ ms → vs₂ ≡ vs → system₂ ≡ system' → slots firsts₂ figures₂ ≡ sl' → full₂ ≡ isFull
-          → LoopInv g (k + 1) (at + g.layout.packet_size) full₂ w₂ ts₂ ss₂ ms₂ vs₂ system₂ times' (slots firsts₂ figures₂)
-      system_again w₂ ts₂ ss₂ ms₂ vs₂ system₂ firsts₂ figures₂ full₂ ew et ez em ev es el ef =
+      pub system_again : (w₂ : List Float) (ts₂ : List FluidFifo) (ss₂ : List PesScanner) (ms₂ : List MainBranch) (vs₂ : List VideoBranch) (system₂ : SystemChain) (sl₂ : Slots) (full₂ : Bool)
+          → w₂ ≡ w → ts₂ ≡ ts → ss₂ ≡ ss → ms₂ ≡ ms → vs₂ ≡ vs → system₂ ≡ system' → sl₂ ≡ sl' → full₂ ≡ isFull
+          → LoopInv g (k + 1) (at + g.layout.packet_size) full₂ w₂ ts₂ ss₂ ms₂ vs₂ system₂ times' sl₂
+      system_again w₂ ts₂ ss₂ ms₂ vs₂ system₂ sl₂ full₂ ew et ez em ev es el ef =
           record { ready = ready; loop = rw (ew, et, ez, em, ev, es, el) (loop_next g ready k at isFull w ts ss ms vs system times sl inv h w ts ss ms vs system' times' sl' full₂ (ef ∙ inv.not_full) system_turn) }
 
     -- a step of stream i
@@ -425,25 +426,25 @@ module _ (g : Pass) (ready : Ready g) (k at : ℕ) (isFull : Bool) (w : List Flo
               → (r : RanState) → r.full ≡ true → st.full ≡ true → r.step ≡ k → r.owner ≡ i → RanTo g r u₂
           video_refuses kind v is-v st x r ef e es eo = rw e-u (stream_refuses (video_turn kind v is-v st x (set vs i st.branch) refl) r ef e es eo)
 
-          module _ (ts₂ : List FluidFifo) (e-ts : ts₂ ≡ ts') (ss₂ : List PesScanner) (e-ss : ss₂ ≡ ss') (ms₂ : List MainBranch) (vs₂ : List VideoBranch) (system₂ : SystemChain) (e-system : system₂ ≡ system) (firsts₂ : List ℕ) (figures₂ : List Float) (e-slots : slots firsts₂ figures₂ ≡ sl') (full₂ : Bool) where
+          module _ (ts₂ : List FluidFifo) (e-ts : ts₂ ≡ ts') (ss₂ : List PesScanner) (e-ss : ss₂ ≡ ss') (ms₂ : List MainBranch) (vs₂ : List VideoBranch) (system₂ : SystemChain) (e-system : system₂ ≡ system) (sl₂ : Slots) (e-slots : sl₂ ≡ sl') (full₂ : Bool) where
             pub main_again : {p : MainModel} → model ≡ StreamModel.Main p → (b : MainBranch) → b ≡ get_or ms i main-work.new_branch → (st : MainStepped)
                 → main-work.StepOf w p b a.delivered m.end times'.arrival.t0 (1 + 6 * i) sl₁ st u sl'
                 → ms₂ ≡ set ms i st.branch → vs₂ ≡ vs → full₂ ≡ st.full → full₂ ≡ false
-                → LoopInv g (k + 1) (at + g.layout.packet_size) full₂ u₂ ts₂ ss₂ ms₂ vs₂ system₂ times' (slots firsts₂ figures₂)
+                → LoopInv g (k + 1) (at + g.layout.packet_size) full₂ u₂ ts₂ ss₂ ms₂ vs₂ system₂ times' sl₂
             main_again kind b is_b st x em ev ef e =
                 record { ready = ready; loop = rw (e-u, e-ts, e-ss, e-system, e-slots, ef, ev) (stream_again (main_turn kind b is_b st x ms₂ em) (sym ef ∙ e)) }
 
             pub video_again : {p : VideoModel} → model ≡ StreamModel.Video p → (v : VideoBranch) → v ≡ get_or vs i video-work.new_branch → (st : VideoStepped)
                 → video-work.StepOf w p v a.delivered m.end times'.arrival.t0 (1 + 6 * i) sl₁ st u sl'
                 → vs₂ ≡ set vs i st.branch → ms₂ ≡ ms → full₂ ≡ st.full → full₂ ≡ false
-                → LoopInv g (k + 1) (at + g.layout.packet_size) full₂ u₂ ts₂ ss₂ ms₂ vs₂ system₂ times' (slots firsts₂ figures₂)
+                → LoopInv g (k + 1) (at + g.layout.packet_size) full₂ u₂ ts₂ ss₂ ms₂ vs₂ system₂ times' sl₂
             video_again kind v is-v st x ev em ef e =
                 record { ready = ready; loop = rw (e-u, e-ts, e-ss, e-system, e-slots, ef, em) (stream_again (video_turn kind v is-v st x vs₂ ev) (sym ef ∙ e)) }
 
 -- ---- its end
 
 pub loop_ends : (g : Pass) (ready : Ready g) (k at : ℕ) (isFull : Bool) (w : List Float) (ts : List FluidFifo) (ss : List PesScanner) (ms : List MainBranch) (vs : List VideoBranch) (system : SystemChain) (times : Times) (sl : Slots)
-    → Looping g ready k at isFull w ts ss ms vs system times sl → g.count + stream_count g ≤ k → (r : RanState) → r.full ≡ isFull → r.tbs ≡ ts → r.mains ≡ ms → r.videos ≡ vs → r.system ≡ system → r.times ≡ times → slots r.firsts r.figures ≡ sl
+    → Looping g ready k at isFull w ts ss ms vs system times sl → g.count + stream_count g ≤ k → (r : RanState) → r.full ≡ isFull → r.tbs ≡ ts → r.mains ≡ ms → r.videos ≡ vs → r.system ≡ system → r.times ≡ times → r.slots ≡ sl
     → RanTo g r w
 loop_ends g ready k at isFull w ts ss ms vs system times sl inv h r ef et em ev es em2 esl =
     let e : k ≡ g.count + stream_count g = (let a = inv.few in omega arith) in

@@ -17,7 +17,8 @@ use Rattle.fifo.specs.declared.FluidFifo.{FluidFifo}
 use Rattle.profile.specs.declared.owner.Pids.{Pids}
 use Rattle.profile.specs.Owner.{owner_by}
 use Rattle.events.specs.Event.{when, tb_overflow, tb_busy, kind_of, figure_of, decode_of}
-use Rattle.events.specs.Slots.{Slots, noted_if, noted_all}
+use Rattle.events.specs.declared.Slots.{Slots}
+use Rattle.events.specs.Slots.{noted_if, noted_all}
 use Rattle.events.proofs.Noted.{noted_all_append_lem, noted_all_when_lem}
 use Rattle.scanner.specs.declared.Runs.{Runs}
 use Rattle.transport.specs.declared.Arrived.{Arrived}

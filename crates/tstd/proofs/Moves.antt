@@ -19,7 +19,8 @@ use Rattle.arrival.specs.Times.{arrival_at, covering}
 use Rattle.arrival.specs.Work.{intervals_in, next_arrival}
 use Rattle.arrival.proofs.Within.{covering_within}
 use Rattle.arrival.proofs.Covering.{AtEnd}
-use Rattle.events.specs.Slots.{Slots, noted_all}
+use Rattle.events.specs.declared.Slots.{Slots}
+use Rattle.events.specs.Slots.{noted_all}
 use Rattle.fifo.specs.FluidFifo.{pushed}
 use Rattle.branch.specs.declared.Run.{Run}
 use Rattle.branch.specs.SysBranch.{rsys_of, sys_events}

@@ -9,7 +9,7 @@ use Rattle.scanner.specs.Unit.{Open}
 use Rattle.scanner.specs.State.{idle, in_header, unfed_runs, scanner_of, open_of, fed_of}
 use Rattle.scanner.proofs.Steps.{unfed_empty}
 use Rattle.arrival.specs.declared.PacketArrival.{PacketArrival}
-use Rattle.events.specs.Slots.{Slots}
+use Rattle.events.specs.declared.Slots.{Slots}
 use Rattle.fifo.specs.declared.FluidFifo.{FluidFifo}
 use Rattle.transport.specs.declared.Arrived.{Arrived}
 use Rattle.transport.specs.Arrive.{arrive_in}

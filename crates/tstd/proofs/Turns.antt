@@ -6,7 +6,8 @@ use Rattle.scanner.specs.State.{idle, scanner_of}
 use Rattle.recording.specs.Read.{opens_at}
 use Rattle.arrival.proofs.Covering.{AtEnd}
 use Rattle.events.specs.Event.{Event}
-use Rattle.events.specs.Slots.{Slots, noted_all}
+use Rattle.events.specs.declared.Slots.{Slots}
+use Rattle.events.specs.Slots.{noted_all}
 use Rattle.events.proofs.Noted.{noted_all_append_lem}
 use Rattle.branch.specs.declared.Delivered.{Delivered}
 use Rattle.branch.specs.declared.main_branch.MainBranch.{MainBranch}

@@ -7,7 +7,8 @@ use Rattle.error.specs.Code.{code_of}
 use Rattle.packet.specs.declared.TsPacketLayout.{TsPacketLayout}
 use Rattle.packet.specs.Layout.{layout_of}
 use Rattle.recording.specs.Read.{read_of}
-use Rattle.events.specs.Slots.{Slots, slots, noted_all}
+use Rattle.events.specs.declared.Slots.{Slots}
+use Rattle.events.specs.Slots.{noted_all}
 use Rattle.report.specs.declared.TStdReport.{TStdReport}
 use Rattle.profile.specs.declared.config.TStdConfig.{TStdConfig}
 use Rattle.profile.specs.Config.{streams_of}
@@ -85,7 +86,7 @@ queue_full c r count = Refusal.QueueFull (min r.step count) (stream_at c r.owner
 
 -- the system chain's transport buffer is looked at last, where there are system PIDs
 unfoldable pub last_slots : TStdConfig → RanState → Slots
-last_slots c r = cond (c.system_count == 0) (slots r.firsts r.figures) (noted_all 49 (tb_events r.system.tb) (slots r.firsts r.figures))
+last_slots c r = cond (c.system_count == 0) r.slots (noted_all 49 (tb_events r.system.tb) r.slots)
 
 unfoldable pub report_in : TStdConfig → RanState → ℕ → TStdReport
 report_in c r samples =

@@ -9,7 +9,7 @@ use Rattle.arrival.specs.declared.RateInterval.{RateInterval}
 use Rattle.arrival.specs.Work.{holds, intervals_in}
 use Rattle.arrival.specs.Bounds.{AllWithin}
 use Rattle.arrival.proofs.Covering.{AtEnd}
-use Rattle.events.specs.Slots.{Slots, slots}
+use Rattle.events.specs.declared.Slots.{Slots}
 use Rattle.branch.specs.declared.main_branch.MainBranch.{MainBranch}
 use Rattle.branch.specs.declared.video_branch.VideoBranch.{VideoBranch}
 use Rattle.branch.specs.Queue.{SameOutside}
@@ -125,7 +125,7 @@ pub record Finished (g : Pass) (ready : Ready g) (r : RanState) (w : List Float)
   pub reached : Reached g (g.count + stream_count g) state
   -- the scanners, which the answer does not need
   pub scanners : List PesScanner
-  pub at : At g ready (g.count + stream_count g) w r.tbs scanners r.mains r.videos r.system r.times (slots r.firsts r.figures) state
+  pub at : At g ready (g.count + stream_count g) w r.tbs scanners r.mains r.videos r.system r.times r.slots state
   pub outcome : (samples : ℕ) → whole g samples ≡ finished g.config (clock_of g) samples g.layout g.recording g.count state
 
 pub record RanTo (g : Pass) (r : RanState) (w : List Float) : Type 0 where

@@ -36,12 +36,11 @@ fn accepted(config: TStdConfig, ran: Ran, samples: usize) -> Answer
     requires { config.stream_count ≤ 8 }
     ensures { result ≡ accepted_of config ran samples }
 {
-    let mut firsts = ran.firsts;
-    let mut slots = ran.figures;
+    let mut slots = ran.slots;
     if 0 < config.system_count {
-        front::note_tb(ran.system.tb, &mut firsts, &mut slots, 49);
+        front::note_tb(ran.system.tb, &mut slots, 49);
     }
-    let mut report = summary::report_of(config, firsts, slots);
+    let mut report = summary::report_of(config, slots);
     report.pcr_samples = samples as u64;
     report.modelled_seconds = modelled_seconds(ran.times.first_time, ran.times.last_time);
     let figures = figures::figures(config, ran.tbs, ran.mains, ran.videos, ran.system);

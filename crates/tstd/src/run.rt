@@ -8,6 +8,7 @@ use crate::stream::StreamModel;
 use crate::{front, moment, owners, skip, stream};
 use branch::main_branch::MainBranch;
 use branch::video_branch::VideoBranch;
+use events::Slots;
 use fifo::FluidFifo;
 use packet::TsPacketLayout;
 use profile::config::TStdConfig;
@@ -24,8 +25,7 @@ pub struct Ran {
     pub videos: [VideoBranch; 8],
     pub system: SystemChain,
     pub times: Times,
-    pub firsts: [u64; 64],
-    pub figures: [f64; 128],
+    pub slots: Slots,
 }
 
 // One function, since the arrays of chains must stay in the one that has the loop: handed to a step they would be copied whole for each packet.
@@ -50,8 +50,7 @@ pub(crate) fn run(
     let mut mains = [MainBranch::new(); 8];
     let mut videos = [VideoBranch::new(); 8];
     let mut system = front::new_system();
-    let mut firsts = [0u64; 64];
-    let mut figures = [0.0f64; 128];
+    let mut slots = Slots::new();
     let mut times = moment::start(work, from, places, intervals);
     let mut at = layout.sync_offset;
     let mut full = false;
@@ -71,7 +70,7 @@ pub(crate) fn run(
                 scanners[i] = fed.scanner;
                 runs = fed.runs;
             }
-            let d = front::front(tbs[i], runs, m, a, &mut firsts, &mut figures, 1 + 6 * i);
+            let d = front::front(tbs[i], runs, m, a, &mut slots, 1 + 6 * i);
             tbs[i] = d.tb;
             match models[i] {
                 StreamModel::Video(model) => {
@@ -81,8 +80,7 @@ pub(crate) fn run(
                         d.delivered,
                         m.end,
                         a.t0,
-                        &mut firsts,
-                        &mut figures,
+                        &mut slots,
                         1 + 6 * i,
                     );
                     videos[i] = s.branch;
@@ -95,8 +93,7 @@ pub(crate) fn run(
                         d.delivered,
                         m.end,
                         a.t0,
-                        &mut firsts,
-                        &mut figures,
+                        &mut slots,
                         1 + 6 * i,
                     );
                     mains[i] = s.branch;
@@ -108,7 +105,7 @@ pub(crate) fn run(
                 break;
             }
         } else if i == 8 {
-            system = front::push_system(system, a, &mut firsts, &mut figures);
+            system = front::push_system(system, a, &mut slots);
         } else {
             let s = skip::skip(times, &owners, bytes, layout.packet_size, at, count, k);
             times = s.times;
@@ -127,7 +124,6 @@ pub(crate) fn run(
         videos,
         system,
         times,
-        firsts,
-        figures,
+        slots,
     }
 }

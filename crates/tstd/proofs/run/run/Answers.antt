@@ -1,12 +1,11 @@
 -- `run` meets its contract. The invariant: behind k steps the arrays, the work and the slots are the state that the definition reaches (`Looping`).
 -- The measure: the steps left. Assumes nothing.
-use Rattle.std.proofs.Common.{◌≡◌, ℕ, suc, ◌-◌, ◌*◌, ◌<◌, replicate, sym, refl, ap, ◌∙◌, ap₂, mul-le-mul, arith}
+use Rattle.std.proofs.Common.{◌≡◌, ℕ, suc, ◌-◌, ◌*◌, ◌<◌, replicate, sym, refl, ap, ◌∙◌, mul-le-mul, arith}
 use Rattle.scanner.specs.State.{idle}
 use Rattle.branch.specs.MainInWork as main-work
 use Rattle.branch.specs.VideoInWork as video-work
 use Rattle.tstd.specs.InWork.{unused_model, unused_tb}
 use Rattle.tstd.proofs.Rows.{get_d_any}
-use Rattle.events.specs.Slots.{slots}
 use Rattle.tstd.specs.Run.{RanTo}
 use Rattle.tstd.proofs.Steps.{count_few}
 use Rattle.tstd.proofs.Scanned.{scanned_fed, scanned_kept}
@@ -26,7 +25,7 @@ loop-k-init c =
     let pre = c.requires in
     record {
       ready = pre.1;
-      loop = loop_starts _ pre.1 _ _ _ _ _ _ _ c.tbs-tbs.ensures (ap (replicate 8) c.new-scanners.ensures) (ap (replicate 8) c.new-mains.ensures) (ap (replicate 8) c.new-videos.ensures) c.new_system-system.ensures _ (one_more _ pre.0) c.start-times.ensures refl;
+      loop = loop_starts _ pre.1 _ _ _ _ _ _ _ c.tbs-tbs.ensures (ap (replicate 8) c.new-scanners.ensures) (ap (replicate 8) c.new-mains.ensures) (ap (replicate 8) c.new-videos.ensures) c.new_system-system.ensures _ (one_more _ pre.0) c.start-times.ensures c.new-slots.ensures;
     }
 
 pub overflow_add-count : goal.overflow_add-count
@@ -95,11 +94,11 @@ loop-k-preserved c =
     elim c.if-i-lt8.branch [
       | then-i-lt8+else-full w ↦
           elim w.match-models-i.branch [
-            | in-Video v ↦ loop_as w.times-is w.at-is w.k-is (video_again _ c.loop-k.invariant.ready _ _ _ _ _ _ _ _ _ _ _ c.loop-k.invariant.loop c.loop-k-test.true _ _ _ c.window_at-window.ensures _ c.pids.ensures (c.moment_at-m.ensures _ c.owner_table-owners.ensures) _ (one_more _ c.requires.0) c.next-times.ensures c.moment_at-m.result.owner refl w.if-i-lt8.true _ (get_d_any c.loop-k.tbs c.moment_at-m.result.owner _ unused_tb (omega (arith, c.loop-k.invariant.loop.now.ts_size, w.if-i-lt8.true))) _ _ (elim w.if-scans.branch [ then-scans s ↦ scanned_fed _ _ _ _ c.loop-k.invariant.loop.now.ss_size w.if-i-lt8.true _ (get_d_any c.loop-k.scanners c.moment_at-m.result.owner _ idle (omega (arith, c.loop-k.invariant.loop.now.ss_size, w.if-i-lt8.true))) _ w.scans.ensures s.if-scans.true _ (get_d_any c.loop-k.scanners c.moment_at-m.result.owner _ idle (omega (arith, c.loop-k.invariant.loop.now.ss_size, w.if-i-lt8.true))) _ s.feed-fed.ensures _ _ s.scanners-is s.runs-is | else-scans s ↦ scanned_kept _ _ _ _ c.loop-k.invariant.loop.now.ss_size w.if-i-lt8.true _ (get_d_any c.loop-k.scanners c.moment_at-m.result.owner _ idle (omega (arith, c.loop-k.invariant.loop.now.ss_size, w.if-i-lt8.true))) _ w.scans.ensures s.if-scans.false _ _ s.scanners-is (s.runs-is ∙ w.unfed-runs.ensures) ]) _ _ w.front-d.ensures _ (get_d_any c.models-models.result c.moment_at-m.result.owner _ unused_model (omega (arith, c.models-models.ensures.size, w.if-i-lt8.true)) ∙ c.models-models.ensures.at c.moment_at-m.result.owner w.if-i-lt8.true) _ _ _ refl _ (w.work-is ∙ v.work-is) _ w.tbs-is _ w.scanners-is _ _ _ w.system-is _ _ (ap₂ slots (w.firsts-is ∙ v.firsts-is) (w.figures-is ∙ v.figures-is)) _ v.in-Video.is _ (get_d_any c.loop-k.videos c.moment_at-m.result.owner _ video-work.new_branch (omega (arith, c.loop-k.invariant.loop.now.vs_size, w.if-i-lt8.true))) _ v.step-s.ensures (w.videos-is ∙ v.videos-is) (w.mains-is ∙ v.mains-is) (w.full-is ∙ v.full-is) (w.full-is ∙ w.if-full.false))
-            | in-Main v ↦ loop_as w.times-is w.at-is w.k-is (main_again _ c.loop-k.invariant.ready _ _ _ _ _ _ _ _ _ _ _ c.loop-k.invariant.loop c.loop-k-test.true _ _ _ c.window_at-window.ensures _ c.pids.ensures (c.moment_at-m.ensures _ c.owner_table-owners.ensures) _ (one_more _ c.requires.0) c.next-times.ensures c.moment_at-m.result.owner refl w.if-i-lt8.true _ (get_d_any c.loop-k.tbs c.moment_at-m.result.owner _ unused_tb (omega (arith, c.loop-k.invariant.loop.now.ts_size, w.if-i-lt8.true))) _ _ (elim w.if-scans.branch [ then-scans s ↦ scanned_fed _ _ _ _ c.loop-k.invariant.loop.now.ss_size w.if-i-lt8.true _ (get_d_any c.loop-k.scanners c.moment_at-m.result.owner _ idle (omega (arith, c.loop-k.invariant.loop.now.ss_size, w.if-i-lt8.true))) _ w.scans.ensures s.if-scans.true _ (get_d_any c.loop-k.scanners c.moment_at-m.result.owner _ idle (omega (arith, c.loop-k.invariant.loop.now.ss_size, w.if-i-lt8.true))) _ s.feed-fed.ensures _ _ s.scanners-is s.runs-is | else-scans s ↦ scanned_kept _ _ _ _ c.loop-k.invariant.loop.now.ss_size w.if-i-lt8.true _ (get_d_any c.loop-k.scanners c.moment_at-m.result.owner _ idle (omega (arith, c.loop-k.invariant.loop.now.ss_size, w.if-i-lt8.true))) _ w.scans.ensures s.if-scans.false _ _ s.scanners-is (s.runs-is ∙ w.unfed-runs.ensures) ]) _ _ w.front-d.ensures _ (get_d_any c.models-models.result c.moment_at-m.result.owner _ unused_model (omega (arith, c.models-models.ensures.size, w.if-i-lt8.true)) ∙ c.models-models.ensures.at c.moment_at-m.result.owner w.if-i-lt8.true) _ _ _ refl _ (w.work-is ∙ v.work-is) _ w.tbs-is _ w.scanners-is _ _ _ w.system-is _ _ (ap₂ slots (w.firsts-is ∙ v.firsts-is) (w.figures-is ∙ v.figures-is)) _ v.in-Main.is _ (get_d_any c.loop-k.mains c.moment_at-m.result.owner _ main-work.new_branch (omega (arith, c.loop-k.invariant.loop.now.ms_size, w.if-i-lt8.true))) _ v.step-s-in-Main.ensures (w.mains-is ∙ v.mains-is) (w.videos-is ∙ v.videos-is) (w.full-is ∙ v.full-is) (w.full-is ∙ w.if-full.false))
+            | in-Video v ↦ loop_as w.times-is w.at-is w.k-is (video_again _ c.loop-k.invariant.ready _ _ _ _ _ _ _ _ _ _ _ c.loop-k.invariant.loop c.loop-k-test.true _ _ _ c.window_at-window.ensures _ c.pids.ensures (c.moment_at-m.ensures _ c.owner_table-owners.ensures) _ (one_more _ c.requires.0) c.next-times.ensures c.moment_at-m.result.owner refl w.if-i-lt8.true _ (get_d_any c.loop-k.tbs c.moment_at-m.result.owner _ unused_tb (omega (arith, c.loop-k.invariant.loop.now.ts_size, w.if-i-lt8.true))) _ _ (elim w.if-scans.branch [ then-scans s ↦ scanned_fed _ _ _ _ c.loop-k.invariant.loop.now.ss_size w.if-i-lt8.true _ (get_d_any c.loop-k.scanners c.moment_at-m.result.owner _ idle (omega (arith, c.loop-k.invariant.loop.now.ss_size, w.if-i-lt8.true))) _ w.scans.ensures s.if-scans.true _ (get_d_any c.loop-k.scanners c.moment_at-m.result.owner _ idle (omega (arith, c.loop-k.invariant.loop.now.ss_size, w.if-i-lt8.true))) _ s.feed-fed.ensures _ _ s.scanners-is s.runs-is | else-scans s ↦ scanned_kept _ _ _ _ c.loop-k.invariant.loop.now.ss_size w.if-i-lt8.true _ (get_d_any c.loop-k.scanners c.moment_at-m.result.owner _ idle (omega (arith, c.loop-k.invariant.loop.now.ss_size, w.if-i-lt8.true))) _ w.scans.ensures s.if-scans.false _ _ s.scanners-is (s.runs-is ∙ w.unfed-runs.ensures) ]) _ _ w.front-d.ensures _ (get_d_any c.models-models.result c.moment_at-m.result.owner _ unused_model (omega (arith, c.models-models.ensures.size, w.if-i-lt8.true)) ∙ c.models-models.ensures.at c.moment_at-m.result.owner w.if-i-lt8.true) _ _ _ refl _ (w.work-is ∙ v.work-is) _ w.tbs-is _ w.scanners-is _ _ _ w.system-is _ (w.slots-is ∙ v.slots-is) _ v.in-Video.is _ (get_d_any c.loop-k.videos c.moment_at-m.result.owner _ video-work.new_branch (omega (arith, c.loop-k.invariant.loop.now.vs_size, w.if-i-lt8.true))) _ v.step-s.ensures (w.videos-is ∙ v.videos-is) (w.mains-is ∙ v.mains-is) (w.full-is ∙ v.full-is) (w.full-is ∙ w.if-full.false))
+            | in-Main v ↦ loop_as w.times-is w.at-is w.k-is (main_again _ c.loop-k.invariant.ready _ _ _ _ _ _ _ _ _ _ _ c.loop-k.invariant.loop c.loop-k-test.true _ _ _ c.window_at-window.ensures _ c.pids.ensures (c.moment_at-m.ensures _ c.owner_table-owners.ensures) _ (one_more _ c.requires.0) c.next-times.ensures c.moment_at-m.result.owner refl w.if-i-lt8.true _ (get_d_any c.loop-k.tbs c.moment_at-m.result.owner _ unused_tb (omega (arith, c.loop-k.invariant.loop.now.ts_size, w.if-i-lt8.true))) _ _ (elim w.if-scans.branch [ then-scans s ↦ scanned_fed _ _ _ _ c.loop-k.invariant.loop.now.ss_size w.if-i-lt8.true _ (get_d_any c.loop-k.scanners c.moment_at-m.result.owner _ idle (omega (arith, c.loop-k.invariant.loop.now.ss_size, w.if-i-lt8.true))) _ w.scans.ensures s.if-scans.true _ (get_d_any c.loop-k.scanners c.moment_at-m.result.owner _ idle (omega (arith, c.loop-k.invariant.loop.now.ss_size, w.if-i-lt8.true))) _ s.feed-fed.ensures _ _ s.scanners-is s.runs-is | else-scans s ↦ scanned_kept _ _ _ _ c.loop-k.invariant.loop.now.ss_size w.if-i-lt8.true _ (get_d_any c.loop-k.scanners c.moment_at-m.result.owner _ idle (omega (arith, c.loop-k.invariant.loop.now.ss_size, w.if-i-lt8.true))) _ w.scans.ensures s.if-scans.false _ _ s.scanners-is (s.runs-is ∙ w.unfed-runs.ensures) ]) _ _ w.front-d.ensures _ (get_d_any c.models-models.result c.moment_at-m.result.owner _ unused_model (omega (arith, c.models-models.ensures.size, w.if-i-lt8.true)) ∙ c.models-models.ensures.at c.moment_at-m.result.owner w.if-i-lt8.true) _ _ _ refl _ (w.work-is ∙ v.work-is) _ w.tbs-is _ w.scanners-is _ _ _ w.system-is _ (w.slots-is ∙ v.slots-is) _ v.in-Main.is _ (get_d_any c.loop-k.mains c.moment_at-m.result.owner _ main-work.new_branch (omega (arith, c.loop-k.invariant.loop.now.ms_size, w.if-i-lt8.true))) _ v.step-s-in-Main.ensures (w.mains-is ∙ v.mains-is) (w.videos-is ∙ v.videos-is) (w.full-is ∙ v.full-is) (w.full-is ∙ w.if-full.false))
           ]
-      | else-i-lt8+then-i-eq8 w ↦ loop_as w.times-is w.at-is w.k-is (system_again _ c.loop-k.invariant.ready _ _ _ _ _ _ _ _ _ _ _ c.loop-k.invariant.loop c.loop-k-test.true _ _ _ c.window_at-window.ensures _ c.pids.ensures (c.moment_at-m.ensures _ c.owner_table-owners.ensures) _ (one_more _ c.requires.0) c.next-times.ensures w.if-i-eq8.true _ _ w.push_system-system.ensures.0 w.push_system-system.ensures.1 _ _ _ _ _ _ _ _ _ w.work-is w.tbs-is w.scanners-is w.mains-is w.videos-is w.system-is (ap₂ slots w.firsts-is w.figures-is) w.full-is)
-      | else-i-lt8+else-i-eq8 w ↦ loop_as w.times-is w.at-is w.k-is (skip_again _ c.loop-k.invariant.ready _ _ _ _ _ _ _ _ _ _ _ c.loop-k.invariant.loop c.loop-k-test.true _ _ _ c.window_at-window.ensures _ c.pids.ensures (c.moment_at-m.ensures _ c.owner_table-owners.ensures) _ (one_more _ c.requires.0) c.next-times.ensures w.if-i-lt8.false w.if-i-eq8.false _ c.owner_table-owners.ensures w.skip-s.ensures _ _ _ _ _ _ _ _ _ w.work-is w.tbs-is w.scanners-is w.mains-is w.videos-is w.system-is (ap₂ slots w.firsts-is w.figures-is) w.full-is)
+      | else-i-lt8+then-i-eq8 w ↦ loop_as w.times-is w.at-is w.k-is (system_again _ c.loop-k.invariant.ready _ _ _ _ _ _ _ _ _ _ _ c.loop-k.invariant.loop c.loop-k-test.true _ _ _ c.window_at-window.ensures _ c.pids.ensures (c.moment_at-m.ensures _ c.owner_table-owners.ensures) _ (one_more _ c.requires.0) c.next-times.ensures w.if-i-eq8.true _ _ w.push_system-system.ensures.0 w.push_system-system.ensures.1 _ _ _ _ _ _ _ _ w.work-is w.tbs-is w.scanners-is w.mains-is w.videos-is w.system-is w.slots-is w.full-is)
+      | else-i-lt8+else-i-eq8 w ↦ loop_as w.times-is w.at-is w.k-is (skip_again _ c.loop-k.invariant.ready _ _ _ _ _ _ _ _ _ _ _ c.loop-k.invariant.loop c.loop-k-test.true _ _ _ c.window_at-window.ensures _ c.pids.ensures (c.moment_at-m.ensures _ c.owner_table-owners.ensures) _ (one_more _ c.requires.0) c.next-times.ensures w.if-i-lt8.false w.if-i-eq8.false _ c.owner_table-owners.ensures w.skip-s.ensures _ _ _ _ _ _ _ _ w.work-is w.tbs-is w.scanners-is w.mains-is w.videos-is w.system-is w.slots-is w.full-is)
     ]
 
 pub shape_of-work-after-loop-k : goal.shape_of-work-after-loop-k
