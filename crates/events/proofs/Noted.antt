@@ -1,13 +1,15 @@
 -- Laws of the slots: what one event does by the tests that led to it, and the events of two lists one after the other.
-use Prim.Native.Nat.{ℕ, ◌+◌, ◌≤◌, ◌<◌}
+use Prim.Native.Nat.{ℕ, ◌+◌, ◌≤◌, ◌<◌, min}
 use mathlib.Core.Path.{◌≡◌, refl, sym, ◌∙◌}
 use mathlib.Core.Bool.{Bool, true, false}
 use mathlib.Core.List.{List, [], ◌∷◌, ◌++◌}
+use native.Mathlib.Nat.{min-eq_left, le-min}
 use native.Mathlib.Omega.{arith}
+use Rattle.std.specs.Prelude.{ltb}
 use lib.ListN.{get_or, set}
 use lib.Seq.{get_or-set_other}
 use lib.Ieee.{Float}
-use borrow.Author.Tests.{lt-ltb, le-ltb, eq-eqb, ne_eqb}
+use borrow.Author.Tests.{lt-ltb, ltb-true, ltb-false, le-ltb, eq-eqb, ne_eqb}
 use Rattle.events.specs.Event.{Event, when, kind_of, figure_of, decode_of}
 use Rattle.events.specs.declared.Slots.{Slots}
 use Rattle.events.specs.Slots.{writable, first_in_slot, later_in_slot, noted, noted_if, noted_all}
@@ -52,3 +54,19 @@ module _ (k : ℕ) (figure decode : Float) (s : Slots) where
       unfolding noted writable
       noted_later e z =
           simp (lt-ltb 0 k (omega arith), lt-ltb k 64 (omega arith), lt-ltb (get_or s.firsts 0 0) 18446744073709551615 counts, ne_eqb (get_or s.firsts k 0) 0 (λ x. z (before e ∙ x)))
+
+-- the number of a slot, held to the end of its type
+pub noted_capped : (n : ℕ) (figure decode : Float) (s : Slots) → noted (min n 18446744073709551615) figure decode s ≡ noted n figure decode s
+noted_capped n figure decode s = by_low (ltb n 64) refl
+  where
+    by_low : (b : Bool) → ltb n 64 ≡ b → noted (min n 18446744073709551615) figure decode s ≡ noted n figure decode s
+    by_low true e = let h = ltb-true n 64 e in let z : min n 18446744073709551615 ≡ n = min-eq_left (omega arith) in rw z
+    by_low false e =
+        let h = ltb-false n 64 e in
+        let l : 64 ≤ min n 18446744073709551615 = le-min h (omega arith) in
+        noted_past (min n 18446744073709551615) figure decode s (omega arith) ∙ sym (noted_past n figure decode s (omega arith))
+
+pub noted_if_capped : (b : Bool) (n m : ℕ) (figure decode : Float) (s : Slots) → m ≡ min n 18446744073709551615 → noted_if b m figure decode s ≡ noted_if b n figure decode s
+unfolding noted_if
+noted_if_capped true n m figure decode s e = rw e (noted_capped n figure decode s)
+noted_if_capped false n m figure decode s e = refl

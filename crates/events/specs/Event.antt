@@ -1,6 +1,8 @@
 -- What a chain finds against the rules of H.222.0, 2.4.2.6, as values in the order of their finding.
 use Rattle.std.specs.Prelude.{ℕ, Bool, true, false, List, [], ◌∷◌, Float}
 use Rattle.ieee.specs.Binary64.{0f}
+use Rattle.events.specs.declared.EventKind.{EventKind}
+use Rattle.events.specs.declared.EventKind.TheVariants.{Overflow, Underflow, Delay, TbOverflow, TbBusy, MbBusy}
 
 pub data Event : Type 0 where
   -- the main buffer's fullness, in bytes, is above its size (Bn, MBn or Bsys)
@@ -21,14 +23,23 @@ abbrev pub when : Bool → Event → List Event
 when true e = e ∷ []
 when false e = []
 
+-- the place of a kind's slot among those of a chain
+abbrev pub place_of : EventKind → ℕ
+place_of Overflow = 0
+place_of Underflow = 1
+place_of Delay = 2
+place_of TbOverflow = 3
+place_of TbBusy = 4
+place_of MbBusy = 5
+
 -- the kinds, as the slots of a chain have them
 unfoldable pub kind_of : Event → ℕ
-kind_of (overflow b) = 0
-kind_of (underflow d b) = 1
-kind_of (delay d s) = 2
-kind_of (tb_overflow b) = 3
-kind_of (tb_busy s) = 4
-kind_of (mb_busy s) = 5
+kind_of (overflow b) = place_of Overflow
+kind_of (underflow d b) = place_of Underflow
+kind_of (delay d s) = place_of Delay
+kind_of (tb_overflow b) = place_of TbOverflow
+kind_of (tb_busy s) = place_of TbBusy
+kind_of (mb_busy s) = place_of MbBusy
 
 unfoldable pub figure_of : Event → Float
 figure_of (overflow b) = b

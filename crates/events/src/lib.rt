@@ -1,21 +1,37 @@
 // What is kept of the events of a replay: for each kind of event of a chain a slot.
 #![tactic(auto)]
 
-ghost use Rattle.std.specs.Prelude.{◌≡◌};
+ghost use Rattle.std.specs.Prelude.{◌≡◌, ◌+◌};
+ghost use Rattle.events.specs.Event.{place_of};
 ghost use Rattle.events.specs.Slots.{no_events, noted, noted_if};
 
-// The slots of a chain, counted from its first.
-pub const OVERFLOW: usize = 0;
+// The kinds of a chain's events, in the order of their slots.
+#[derive(Clone, Copy, Debug, PartialEq, Eq)]
+pub enum EventKind {
+    Overflow,
+    Underflow,
+    Delay,
+    TbOverflow,
+    TbBusy,
+    MbBusy,
+}
 
-pub const UNDERFLOW: usize = 1;
-
-pub const DELAY: usize = 2;
-
-pub const TB_OVERFLOW: usize = 3;
-
-pub const TB_BUSY: usize = 4;
-
-pub const MB_BUSY: usize = 5;
+impl EventKind {
+    // Its place among the slots of a chain. Ruled out: two kinds in one slot; a place past 5.
+    #[tactic(auto, unfolding(crate::specs::Event::place_of))]
+    pub fn place(self) -> usize
+        ensures { result ≡ place_of self }
+    {
+        match self {
+            EventKind::Overflow => 0,
+            EventKind::Underflow => 1,
+            EventKind::Delay => 2,
+            EventKind::TbOverflow => 3,
+            EventKind::TbBusy => 4,
+            EventKind::MbBusy => 5,
+        }
+    }
+}
 
 // firsts[0] counts the events. Slot k, from 1 to 63, has the number of its first event in firsts[k] (0: none yet), its largest
 // figure in figures[k], and the decode time of its first event in figures[64 + k].
@@ -62,5 +78,19 @@ impl Slots {
         if found {
             self.note(k, figure, decode);
         }
+    }
+    // The same for a kind of the chain whose slots begin at chain_k. Ruled out: the event in the slot of another kind; a chain_k near
+    // its type's end that comes round to a slot.
+    pub fn note_kind_if(
+        &mut self,
+        found: bool,
+        chain_k: usize,
+        kind: EventKind,
+        figure: f64,
+        decode: f64,
+    )
+        ensures { self.new ≡ noted_if found (chain_k + place_of kind) figure decode self.old }
+    {
+        self.note_if(found, chain_k.saturating_add(kind.place()), figure, decode);
     }
 }
