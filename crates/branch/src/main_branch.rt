@@ -10,7 +10,7 @@ ghost use Rattle.branch.specs.MainInWork.{new_branch, floats_of_unit, no_unit, r
 use crate::inflow::CumulativeIn;
 use crate::queue::{Place, Ring, entry, pop, push};
 use crate::{AccessUnit, Delivered, Run};
-use events::Slots;
+use events::{EventKind, Slots};
 
 // What does not change: BSn in bytes, and where the chain's part of the work begins, with the depth of its two rings.
 #[derive(Clone, Copy)]
@@ -110,15 +110,16 @@ fn note_removal(
     ensures { slots.new ≡ noted_all k (removal_events size arrived fullness required u) slots.old }
 {
     let at = u.decode_time;
-    slots.note_if(fullness > size + 1.0, k + events::OVERFLOW, fullness, 0.0);
-    slots.note_if(
+    slots.note_kind_if(fullness > size + 1.0, k, EventKind::Overflow, fullness, 0.0);
+    slots.note_kind_if(
         arrived + 1.0 < required,
-        k + events::UNDERFLOW,
+        k,
+        EventKind::Underflow,
         required - arrived,
         at,
     );
     let delay = at - u.first_input_time;
-    slots.note_if(delay > 1.0 + 1e-6, k + events::DELAY, delay, at);
+    slots.note_kind_if(delay > 1.0 + 1e-6, k, EventKind::Delay, delay, at);
 }
 
 // One unit, already off the ring, is removed.
@@ -182,9 +183,10 @@ fn look_at_end(b: MainBranch, p: MainModel, work: &[f64], slots: &mut Slots, k: 
     ensures { DrainedTo work.now p k slots.old (look_at_end p.buffer_size (main_of work.now p b)) result slots.new }
 {
     let fullness = b.inflow.final_total(runs_place(p), work) - b.removed;
-    slots.note_if(
+    slots.note_kind_if(
         fullness > p.buffer_size + 1.0,
-        k + events::OVERFLOW,
+        k,
+        EventKind::Overflow,
         fullness,
         0.0,
     );

@@ -4,7 +4,7 @@ ghost use Rattle.events.specs.Slots.{noted_all};
 ghost use Rattle.branch.specs.SysBranch.{new_sys, rsys_of, since as sinceDef, idled as idledDef, filled as filledDef, push_sys, sys_events};
 
 use crate::Run;
-use events::Slots;
+use events::{EventKind, Slots};
 
 // The time of the last byte is -infinity before the first run: floats alone, no Option.
 #[derive(Clone, Copy)]
@@ -65,7 +65,13 @@ impl SysBranch {
         ensures { (result ≡ push_sys self run rate) × (slots.new ≡ noted_all k (sys_events self run rate) slots.old) }
     {
         let fullness = filled(self, run, rate);
-        slots.note_if(fullness > 1536.0 + 1.0, k, fullness, 0.0);
+        slots.note_kind_if(
+            fullness > 1536.0 + 1.0,
+            k,
+            EventKind::Overflow,
+            fullness,
+            0.0,
+        );
         SysBranch {
             fullness,
             last_time: run.t1,

@@ -15,7 +15,7 @@ use crate::inflow::CumulativeIn;
 use crate::main_branch::{entry_of, is_open, no_unit, unit_at};
 use crate::queue::{Place, Ring, entry, pop, push};
 use crate::{AccessUnit, Delivered, HeaderMark, Run};
-use events::{DELAY, MB_BUSY, OVERFLOW, Slots, UNDERFLOW};
+use events::{EventKind, Slots};
 use ieee::{max, min};
 
 // What does not change: the rate Rbxn in bytes a second, the sizes MBSn and EBSn in bytes, and where the chain's part of the work begins,
@@ -338,7 +338,13 @@ fn closed(l: Leak, m: VideoLayout, total: f64, t: f64, slots: &mut Slots, k: usi
     ensures { ClosedBy m l total t k slots.old slots.new result }
 {
     let fullness = total - l.flow.transferred;
-    slots.note_if(fullness > m.mb_size + 1.0, k + OVERFLOW, fullness, 0.0);
+    slots.note_kind_if(
+        fullness > m.mb_size + 1.0,
+        k,
+        EventKind::Overflow,
+        fullness,
+        0.0,
+    );
     Leak {
         longest_busy: longest_until(l.longest_busy, l.busy_since, t),
         mb_peak: max(l.mb_peak, fullness),
@@ -395,9 +401,15 @@ fn note_removal(eb_in: f64, required: f64, u: AccessUnit, slots: &mut Slots, k: 
     ensures { slots.new ≡ noted_all k (removal_events eb_in required u) slots.old }
 {
     let at = u.decode_time;
-    slots.note_if(eb_in + 1.0 < required, k + UNDERFLOW, required - eb_in, at);
+    slots.note_kind_if(
+        eb_in + 1.0 < required,
+        k,
+        EventKind::Underflow,
+        required - eb_in,
+        at,
+    );
     let delay = at - u.first_input_time;
-    slots.note_if(delay > 1.0 + 1e-6, k + DELAY, delay, at);
+    slots.note_kind_if(delay > 1.0 + 1e-6, k, EventKind::Delay, delay, at);
 }
 
 // The first pending unit, u, is removed from EBn.
@@ -665,7 +677,7 @@ fn note_busy(b: VideoBranch, slots: &mut Slots, k: usize) -> Stepped
     ensures { BusyNoted b k slots.old result slots.new }
 {
     let longest = b.leak.longest_busy;
-    slots.note_if(longest > 1.0 + 1e-6, k + MB_BUSY, longest, 0.0);
+    slots.note_kind_if(longest > 1.0 + 1e-6, k, EventKind::MbBusy, longest, 0.0);
     Stepped {
         full: false,
         branch: b,

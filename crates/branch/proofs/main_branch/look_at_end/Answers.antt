@@ -7,4 +7,4 @@ final_total-requires c = rw c.runs_place.ensures c.requires.branch_lies.runs
 
 pub returns : goal.returns
 returns c =
-    looked _ _ _ _ _ _ _ _ c.requires.branch_lies (rw c.runs_place.ensures at c.final_total.ensures) c.note_if.ensures c.max.ensures
+    looked _ _ _ _ _ _ _ _ c.requires.branch_lies (rw c.runs_place.ensures at c.final_total.ensures) c.note_kind_if.ensures c.max.ensures

@@ -8,4 +8,4 @@ use Rattle.branch.proofs.video_branch.closed.Goals as goal
 pub returns : goal.returns
 unfolding kind_of figure_of decode_of
 returns c =
-    record { leak = closed_state_lem _ _ _ _ _ _ c.longest_until.ensures c.max.ensures c.max-2.ensures; events = c.note_if.ensures ∙ sym (noted_all_when_lem _ _ (overflow _) _) }
+    record { leak = closed_state_lem _ _ _ _ _ _ c.longest_until.ensures c.max.ensures c.max-2.ensures; events = c.note_kind_if.ensures ∙ sym (noted_all_when_lem _ _ (overflow _) _) }

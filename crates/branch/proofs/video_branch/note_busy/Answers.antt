@@ -6,4 +6,4 @@ use Rattle.branch.proofs.video_branch.note_busy.Goals as goal
 
 pub returns : goal.returns
 unfolding kind_of figure_of decode_of
-returns c = record { result = refl; slots = c.note_if.ensures ∙ sym (noted_all_when_lem _ _ (mb_busy _) _) }
+returns c = record { result = refl; slots = c.note_kind_if.ensures ∙ sym (noted_all_when_lem _ _ (mb_busy _) _) }

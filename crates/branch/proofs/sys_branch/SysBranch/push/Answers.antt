@@ -6,4 +6,4 @@ use Rattle.branch.proofs.sys_branch.SysBranch.push.Goals as goal
 pub returns : goal.returns
 unfolding push_sys
 returns c =
-    (simp (c.max.ensures, c.filled-fullness.ensures), sys_noted _ _ _ _ _ _ _ c.filled-fullness.ensures c.note_if.ensures)
+    (simp (c.max.ensures, c.filled-fullness.ensures), sys_noted _ _ _ _ _ _ _ c.filled-fullness.ensures c.note_kind_if.ensures)
