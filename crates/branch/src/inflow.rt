@@ -21,6 +21,7 @@ pub struct Arrived {
 }
 
 // How much of a run has arrived by t, where the run has begun.
+#[tactic(auto, unfolding(crate::specs::CumulativeIn::fraction, crate::specs::CumulativeIn::clamp))]
 fn fraction_by(run: Run, t: f64) -> f64
     ensures { result ≡ fraction run t }
 {

@@ -313,6 +313,7 @@ fn frontier(end: bool, t: f64) -> f64
 }
 
 // The rings lie in a work of len floats, the count of units has room, and the chain has slots.
+#[tactic(auto, unfolding(crate::specs::MainInWork::ready))]
 fn ready(b: MainBranch, p: MainModel, len: usize, k: usize) -> bool
     requires { len ≤ 1152921504606846976 }
     ensures { result ≡ readyDef len p b k }
@@ -330,6 +331,7 @@ fn ready(b: MainBranch, p: MainModel, len: usize, k: usize) -> bool
 
 impl MainBranch {
     // Nothing has arrived and no unit is open. Ruled out: an open unit of decode time 0; a ring that does not lie in the work.
+    #[tactic(auto, unfolding(crate::specs::MainInWork::new_branch))]
     pub fn new() -> MainBranch
         ensures { result ≡ new_branch }
     {

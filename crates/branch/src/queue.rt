@@ -26,6 +26,7 @@ impl Ring {
 }
 
 // Which place has the entry i from the front; i is count for the next entry.
+#[tactic(auto, unfolding(crate::specs::Queue::slot_of))]
 fn slot(q: Ring, depth: usize, i: usize) -> usize
     requires { (q.head < depth) × ((i < depth) × (depth ≤ 9223372036854775807)) }
     ensures { (result ≡ slot_of depth q i) × (result < depth) }
@@ -38,6 +39,7 @@ fn slot(q: Ring, depth: usize, i: usize) -> usize
 }
 
 // Where that place begins in the work.
+#[tactic(auto, unfolding(crate::specs::Queue::place_of))]
 fn offset(q: Ring, w: Place, width: usize, i: usize) -> usize
     requires head_lt_depth { (q.head < w.depth) × ((i < w.depth) × (0 < width)) }
     requires depth_bound { w.base + width * w.depth ≤ 9223372036854775807 }
@@ -47,6 +49,7 @@ fn offset(q: Ring, w: Place, width: usize, i: usize) -> usize
     w.base + width * at
 }
 
+#[tactic(auto, unfolding(crate::specs::Queue::floats_at))]
 pub(crate) fn entry<const W: usize>(q: Ring, w: Place, work: &[f64], i: usize) -> [f64; W]
     requires lies { Lies W work.now w q }
     requires i_lt_count { (i < q.count) × (0 < W) }
@@ -76,6 +79,7 @@ pub(crate) fn push<const W: usize>(q: Ring, w: Place, work: &mut [f64], e: [f64;
 }
 
 // The first entry goes.
+#[tactic(auto, unfolding(crate::specs::Queue::pop_def))]
 pub(crate) fn pop(q: Ring, w: Place) -> Ring
     requires { (q.head < w.depth) × (0 < q.count) }
     ensures { result ≡ pop_def w.depth q }

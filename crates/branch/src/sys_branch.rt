@@ -15,6 +15,7 @@ pub struct SysBranch {
 }
 
 // Rsys in bytes a second, from the transport rate in bytes a second. Ruled out: a rate below 80000 bit/s; one in bits.
+#[tactic(auto, unfolding(crate::specs::SysBranch::rsys_of))]
 pub fn rsys(rate: f64) -> f64
     ensures { result ≡ rsys_of rate }
 {
@@ -31,6 +32,7 @@ fn since(s: SysBranch, t0: f64) -> f64
 }
 
 // The fullness once the idle gap has drained.
+#[tactic(auto, unfolding(crate::specs::SysBranch::idled))]
 fn idled(s: SysBranch, t0: f64, rate: f64) -> f64
     ensures { result ≡ idledDef s t0 rate }
 {
@@ -39,6 +41,7 @@ fn idled(s: SysBranch, t0: f64, rate: f64) -> f64
 }
 
 // The fullness at the run's end.
+#[tactic(auto, unfolding(crate::specs::SysBranch::filled))]
 fn filled(s: SysBranch, run: Run, rate: f64) -> f64
     ensures { result ≡ filledDef s run rate }
 {

@@ -81,6 +81,7 @@ pub struct Turned {
 }
 
 // The bytes of a mark between start and end.
+#[tactic(auto, unfolding(crate::specs::VideoBranch::overlap))]
 fn overlap(m: HeaderMark, start: f64, end: f64) -> f64
     ensures { result ≡ overlapOf m start end }
 {
@@ -117,6 +118,7 @@ fn header_bytes(first: Ring, w: Place, work: &[f64], start: f64, end: f64) -> He
 }
 
 // Bytes leave MBn: those that are marked are dropped, the others enter EBn.
+#[tactic(auto, unfolding(crate::specs::VideoBranch::transfer, crate::specs::VideoBranch::moved, crate::specs::VideoBranch::eb_in_after, crate::specs::VideoInWork::flow_of))]
 fn transfer(f: Flow, w: Place, work: &[f64], bytes: f64) -> Flow
     requires { Lies 2 work.now w f.marks }
     ensures { Transferred work.now w f bytes result }
@@ -632,6 +634,7 @@ fn frontier(b: VideoBranch, m: VideoLayout, end: bool, t: f64) -> f64
 }
 
 // The rings lie in a work of len floats, the count of units has room, and the chain has slots.
+#[tactic(auto, unfolding(crate::specs::VideoInWork::ready))]
 fn ready(b: VideoBranch, p: VideoModel, len: usize, k: usize) -> bool
     requires { len ≤ 1152921504606846976 }
     ensures { result ≡ readyOf len p b k }

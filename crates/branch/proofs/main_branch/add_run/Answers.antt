@@ -5,9 +5,6 @@ use Rattle.branch.proofs.main_branch.add_run.Goals as goal
 pub returns-then-not-run : goal.returns-then-not-run
 returns-then-not-run c = fed_same _ _ _ _ c.requires (no_run _ _ _ c.if-not-run.true)
 
-pub push_run-requires : goal.push_run-requires
-push_run-requires c = rw c.runs_place.ensures c.requires.runs
-
 pub returns : goal.returns
 returns c = add_pushed _ _ _ _ _ c.if-not-run.false _ c.runs_place.ensures c.requires _ c.push_run.ensures _ c.in-Some.is
 

@@ -1,5 +1,4 @@
 -- `branch::main_branch::deliver` meets its contract. Assumes nothing.
-use native.Mathlib.Omega.{arith}
 use Rattle.branch.specs.MainBranch.{deliver}
 use Rattle.branch.proofs.Feeding.{fed_stop, fed_next}
 use Rattle.branch.proofs.main_branch.deliver.Goals as goal
@@ -17,10 +16,6 @@ pub returns-then-y : goal.returns-then-y
 unfolding deliver
 returns-then-y c =
     fed_next _ _ _ _ _ _ c.open_unit-s.ensures _ _ _ c.if-s.false (fed_next _ _ _ _ _ _ c.add_run-x.ensures _ _ _ c.if-x.false (fed_stop _ _ _ _ _ _ c.add_run-y.ensures _ c.if-y.true))
-
-pub shape_of-work : goal.shape_of-work
-shape_of-work c =
-    omega (arith, c.add_run.ensures.outside.size, c.add_run-y.ensures.outside.size, c.add_run-x.ensures.outside.size, c.open_unit-s.ensures.outside.size)
 
 pub returns : goal.returns
 unfolding deliver

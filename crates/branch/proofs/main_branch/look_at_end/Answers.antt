@@ -2,9 +2,6 @@
 use Rattle.branch.proofs.Feeding.{looked}
 use Rattle.branch.proofs.main_branch.look_at_end.Goals as goal
 
-pub final_total-requires : goal.final_total-requires
-final_total-requires c = rw c.runs_place.ensures c.requires.branch_lies.runs
-
 pub returns : goal.returns
 returns c =
     looked _ _ _ _ _ _ _ _ c.requires.branch_lies (rw c.runs_place.ensures at c.final_total.ensures) c.note_kind_if.ensures c.max.ensures

@@ -1,13 +1,6 @@
 -- `branch::main_branch::remove` meets its contract. Assumes nothing.
-use native.Mathlib.Omega.{arith}
 use Rattle.branch.proofs.Removals.{removed_to}
 use Rattle.branch.proofs.main_branch.remove.Goals as goal
-
-pub arrived_by-got-requires : goal.arrived_by-got-requires
-arrived_by-got-requires c = rw c.runs_place.ensures c.requires.lies
-
-pub overflow_add-result : goal.overflow_add-result
-overflow_add-result c = omega (arith, c.requires.k_bound.1)
 
 pub returns : goal.returns
 returns c =

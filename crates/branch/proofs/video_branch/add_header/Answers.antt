@@ -1,6 +1,5 @@
 -- `branch::video_branch::add_header` meets its contract. Assumes nothing.
 use mathlib.Core.Bool.{true}
-use native.Mathlib.Omega.{arith}
 use Rattle.branch.proofs.VideoFeeding.{fed_same, run_none, mark_refused, fed_full, header_fed}
 use Rattle.branch.proofs.video_branch.add_header.Goals as goal
 
@@ -12,10 +11,6 @@ returns-then-b-m c = mark_refused _ c.args.work.now _ _ _ c.requires.apart c.if-
 
 pub returns-then-s : goal.returns-then-s
 returns-then-s c = fed_full _ _ _ _ _ c.requires.apart c.if-run.false _ _ c.queue_run-s.ensures true c.if-s.true
-
-pub mark_run-requires : goal.mark_run-requires
-mark_run-requires c =
-    let q = c.queue_run-s.ensures in record { video_lies = q.lies; apart = (c.requires.apart, rw q.marks (omega (arith, c.requires.video_lies.leak.marks.some, c.if-b-m.false))) }
 
 pub returns : goal.returns
 returns c =

@@ -1,8 +1,7 @@
 -- `branch::video_branch::advance` meets its contract. Assumes nothing.
 use mathlib.Core.Path.{◌≡◌}
-use native.Mathlib.Omega.{arith}
 use Rattle.branch.specs.VideoInWork.{DueOf, until}
-use Rattle.branch.proofs.VideoAdvance.{advance_starts, advance_less, advance_more, advance_ends}
+use Rattle.branch.proofs.VideoAdvance.{advance_less, advance_more, advance_ends}
 use Rattle.branch.proofs.video_branch.advance.Goals as goal
 use Rattle.branch.proofs.video_branch.advance.Goals.{Joined-due, in-Some, in-None}
 
@@ -13,15 +12,6 @@ module _ (c : Joined-due) where
 
   time : c.match-due.to ≡ until c.match-due.due c.args.frontier
   time = elim c.match-due.branch [ in-Some w ↦ rw (w.due-is, w.to-is) | in-None w ↦ rw (w.due-is, w.in-None.is, w.to-is) ]
-
-pub loop-u-init : goal.loop-u-init
-loop-u-init c = advance_starts _ _ _ _ _ _ c.requires.video_lies c.requires.k_bound.1
-
-pub remove-cur-requires : goal.remove-cur-requires
-remove-cur-requires c =
-    let i = c.loop-u.invariant in
-    let s = (due (goal.at.remove-cur-requires c).Joined-due).some _ c.in-Some-due.is in
-    record { head_lt_depth = (i.lies.pending.inside, s); k_bound = (c.requires.k_bound.0, omega (arith, s, i.bound)) }
 
 pub loop-u-smaller : goal.loop-u-smaller
 loop-u-smaller c =

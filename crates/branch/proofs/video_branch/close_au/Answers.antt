@@ -1,6 +1,5 @@
 -- `branch::video_branch::close_au` meets its contract. Assumes nothing.
 use mathlib.Core.Path.{sym, ◌∙◌}
-use native.Mathlib.Omega.{arith}
 use Rattle.branch.proofs.VideoFeeding.{fed_same, close_none, close_full, close_pushed}
 use Rattle.branch.proofs.video_branch.close_au.Goals as goal
 use Rattle.branch.proofs.video_branch.close_au.Goals.{then-not-wanted-via-then-not-wanted, then-not-wanted-via-else-not-wanted+then-not-is_open}
@@ -12,9 +11,6 @@ returns-then-not-wanted c =
       | then-not-wanted-via-else-not-wanted+then-not-is_open w ↦
           fed_same _ _ _ _ c.requires.video_lies (rw w.if-not-wanted.false (close_none _ _ _ _ (sym w.is_open.ensures ∙ w.if-not-is_open.true)))
     ]
-
-pub push-requires : goal.push-requires
-push-requires c = (omega arith, (c.requires.video_lies.pending, omega arith))
 
 pub returns-in_default : goal.returns-in_default
 returns-in_default c =

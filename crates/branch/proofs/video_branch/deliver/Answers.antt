@@ -25,36 +25,16 @@ unfolding deliver
 returns-then-s c =
     fed_stops _ _ _ _ _ _ _ (stamp_refused _ _ _ _ c.requires.video_lies (sym c.is_open.ensures ∙ c.if-is_open.true) _ _ c.close_au-s.ensures c.if-s.true) c.if-s.true
 
-pub add_header-first-requires : goal.add_header-first-requires
-add_header-first-requires c = record { video_lies = (opened (goal.at.add_header-first-requires c).Joined-is_open).lies; apart = c.requires.apart }
-
-pub shape_of-work-then-first : goal.shape_of-work-then-first
-shape_of-work-then-first c =
-    c.add_header-first.ensures.outside.size ∙ (opened (goal.at.shape_of-work-then-first c).Joined-is_open).outside.size
-
 pub returns-then-first : goal.returns-then-first
 unfolding deliver
 returns-then-first c =
     fed_then _ _ _ _ _ _ _ (opened (goal.at.returns-then-first c).Joined-is_open) _ _ refl (fed_stops _ _ _ _ _ _ _ c.add_header-first.ensures c.if-first.true)
-
-pub shape_of-work-then-second : goal.shape_of-work-then-second
-shape_of-work-then-second c =
-    c.add_header-second.ensures.outside.size ∙ (c.add_header-first.ensures.outside.size ∙ (opened (goal.at.shape_of-work-then-second c).Joined-is_open).outside.size)
 
 pub returns-then-second : goal.returns-then-second
 unfolding deliver
 returns-then-second c =
     fed_then _ _ _ _ _ _ _ (opened (goal.at.returns-then-second c).Joined-is_open) _ _ refl
     (fed_then _ _ _ _ _ _ _ c.add_header-first.ensures _ _ c.if-first.false (fed_stops _ _ _ _ _ _ _ c.add_header-second.ensures c.if-second.true))
-
-pub add_content-requires : goal.add_content-requires
-add_content-requires c =
-    record { video_lies = c.add_header-second.ensures.lies; apart = c.requires.apart }
-
-pub shape_of-work : goal.shape_of-work
-shape_of-work c =
-    c.add_content.ensures.outside.size
-    ∙ (c.add_header-second.ensures.outside.size ∙ (c.add_header-first.ensures.outside.size ∙ (opened (goal.at.shape_of-work c).Joined-is_open).outside.size))
 
 pub returns : goal.returns
 unfolding deliver

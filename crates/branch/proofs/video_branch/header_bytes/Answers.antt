@@ -1,13 +1,10 @@
 -- `branch::video_branch::header_bytes` meets its contract. Assumes nothing.
-use Rattle.branch.proofs.HeaderMarks.{pass_starts, pass_more, pass_before, pass_within, pass_ends}
+use Rattle.branch.proofs.HeaderMarks.{pass_more, pass_before, pass_within, pass_ends}
 use Rattle.branch.proofs.Rings.{count_popped}
 use native.Mathlib.Omega.{arith}
 use mathlib.Core.Path.{ap}
 use Rattle.branch.specs.VideoInWork.{mark_of, mark_at}
 use Rattle.branch.proofs.video_branch.header_bytes.Goals as goal
-
-pub loop-q-init : goal.loop-q-init
-loop-q-init c = pass_starts _ _ _ _ _ c.requires
 
 pub loop-q-smaller : goal.loop-q-smaller
 loop-q-smaller c = rw (c.pop-q.ensures, count_popped) (omega arith)

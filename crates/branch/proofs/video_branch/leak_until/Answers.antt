@@ -7,9 +7,6 @@ pub returns-then-l : goal.returns-then-l
 unfolding of_bits
 returns-then-l c = leak_first _ _ _ _ _ _ c.requires.leak_lies (c.if-l.true)
 
-pub reached-total-requires : goal.reached-total-requires
-reached-total-requires c = record { leak_lies = c.turns-s.ensures.leak.lies; settled_at = c.turns-s.ensures.seen }
-
 pub returns : goal.returns
 unfolding of_bits
 returns c =

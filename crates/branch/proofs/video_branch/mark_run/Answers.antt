@@ -1,10 +1,6 @@
 -- `branch::video_branch::mark_run` meets its contract. Assumes nothing.
-use native.Mathlib.Omega.{arith}
 use Rattle.branch.proofs.VideoFeeding.{mark_finds_room, run_marked}
 use Rattle.branch.proofs.video_branch.mark_run.Goals as goal
-
-pub push-requires : goal.push-requires
-push-requires c = (omega arith, (c.requires.video_lies.leak.marks, omega arith))
 
 pub returns-in_default : goal.returns-in_default
 returns-in_default c = absurd (mark_finds_room _ _ _ _ _ c.requires.video_lies c.requires.apart.0 _ c.push.ensures c.requires.apart.1 c.in_default.is)

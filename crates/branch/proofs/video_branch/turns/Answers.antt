@@ -8,9 +8,6 @@ use Rattle.branch.proofs.video_branch.turns.Goals as goal
 pub loop-left-init : goal.loop-left-init
 loop-left-init c = turns_start _ _ _ _ c.requires
 
-pub loop-left-smaller : goal.loop-left-smaller
-loop-left-smaller c = omega arith
-
 pub loop-left-preserved : goal.loop-left-preserved
 unfolding leak_of
 loop-left-preserved c =

@@ -1,12 +1,8 @@
 -- `branch::inflow::CumulativeIn::final_total` meets its contract. Assumes nothing.
 use native.Mathlib.Omega.{arith}
 use Rattle.branch.specs.CumulativeIn.{final_total}
-use Rattle.branch.proofs.Rings.{walk_starts}
 use Rattle.branch.proofs.Inflows.{final_more, final_ends}
 use Rattle.branch.proofs.inflow.CumulativeIn.final_total.Goals as goal
-
-pub loop-i-init : goal.loop-i-init
-loop-i-init c = walk_starts 3 _ _ _ _ _ _
 
 pub loop-i-preserved : goal.loop-i-preserved
 loop-i-preserved c = rw c.run_at-sum.ensures (final_more c.loop-i.invariant (omega arith))

@@ -1,11 +1,8 @@
 -- `branch::inflow::CumulativeIn::settle` meets its contract. Assumes nothing.
 use native.Mathlib.Omega.{arith}
 use Rattle.branch.proofs.Rings.{count_popped}
-use Rattle.branch.proofs.Inflows.{settle_starts, settle_more, settle_stops, settle_ends}
+use Rattle.branch.proofs.Inflows.{settle_more, settle_stops, settle_ends}
 use Rattle.branch.proofs.inflow.CumulativeIn.settle.Goals as goal
-
-pub loop-q-init : goal.loop-q-init
-loop-q-init c = settle_starts _ _ _ _ _ c.requires
 
 pub loop-q-smaller : goal.loop-q-smaller
 loop-q-smaller c = rw (c.pop-q.ensures, count_popped) (omega arith)

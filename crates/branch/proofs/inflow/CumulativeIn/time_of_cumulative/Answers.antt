@@ -2,7 +2,6 @@
 use lib.Ieee.{of_bits}
 use mathlib.Core.Path.{◌∙◌}
 use native.Mathlib.Omega.{arith}
-use Rattle.branch.proofs.Rings.{walk_starts}
 use Rattle.branch.proofs.Inflows.{time_more, time_stops, time_ends, time_forgotten, time_first, time_unsettled}
 use Rattle.branch.proofs.inflow.CumulativeIn.time_of_cumulative.Goals as goal
 
@@ -15,10 +14,6 @@ pub returns-then-target-self : goal.returns-then-target-self
 unfolding of_bits
 returns-then-target-self c =
     rw c.run_at.ensures (time_first c.args.work.now c.args.w c.args.self _ c.if-target-self.true c.requires (omega arith))
-
-pub loop-i-init : goal.loop-i-init
-unfolding of_bits
-loop-i-init c = walk_starts 3 _ _ _ _ _ _
 
 pub returns-then-target-sum : goal.returns-then-target-sum
 unfolding of_bits

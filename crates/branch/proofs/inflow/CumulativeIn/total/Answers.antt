@@ -1,11 +1,7 @@
 -- `branch::inflow::CumulativeIn::total` meets its contract. Assumes nothing.
 use native.Mathlib.Omega.{arith}
-use Rattle.branch.proofs.Rings.{walk_starts}
 use Rattle.branch.proofs.Inflows.{total_more, total_stops, total_ends}
 use Rattle.branch.proofs.inflow.CumulativeIn.total.Goals as goal
-
-pub loop-i-init : goal.loop-i-init
-loop-i-init c = walk_starts 3 _ _ _ _ _ _
 
 pub returns-then-run-t : goal.returns-then-run-t
 returns-then-run-t c = total_stops _ c.loop-i.invariant (omega arith) (cc)
