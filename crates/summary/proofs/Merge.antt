@@ -22,7 +22,9 @@ use Rattle.profile.specs.declared.model.TStdBranch.TheVariants.{Main, Video}
 use Rattle.profile.specs.declared.config.TStdStream.{TStdStream}
 use Rattle.profile.specs.declared.config.TStdConfig.{TStdConfig}
 use Rattle.profile.specs.Config.{unused_stream}
+use Rattle.events.specs.declared.EventKind.TheVariants.{Overflow, Underflow, Delay, TbOverflow as TbOverflowKind, TbBusy, MbBusy}
 use Rattle.events.specs.Event.{Event, overflow, underflow, delay, tb_overflow, tb_busy, mb_busy, kind_of, figure_of, decode_of}
+use Rattle.summary.specs.Kinds.{kind_at, event_in}
 use Rattle.summary.specs.Violation.{whole_bytes, overflow_in, underflow_in, stream_violation, system_violation, system_pid, violation_of, event_of, slot_of, slot_violation, AboveZero, SecondsAboveZero}
 
 -- ---- what the violations of a slot have in common, whatever figure and decode time it has
@@ -79,10 +81,10 @@ bsys_form = formed _ (λ x t y u. refl) (λ x t. refl) (λ x t y. refl)
 
 -- what holds of each kind of event holds of the events of any slot
 by_kind : (P : (Float → Float → Event) → Type 0) → P (λ x t. overflow x) → P (λ x t. underflow t x) → P (λ x t. delay t x) → P (λ x t. tb_overflow x) → P (λ x t. tb_busy x) → P (λ x t. mb_busy x) → (kind : ℕ) → P (event_of kind)
-unfolding event_of
+unfolding event_of kind_at
 by_kind P p₀ p₁ p₂ p₃ p₄ p₅ kind = go (eqb kind 0) (eqb kind 1) (eqb kind 2) (eqb kind 3) (eqb kind 4)
   where
-    go : (a b c d e : Bool) → P (λ x t. cond a (overflow x) (cond b (underflow t x) (cond c (delay t x) (cond d (tb_overflow x) (cond e (tb_busy x) (mb_busy x))))))
+    go : (a b c d e : Bool) → P (event_in (cond a Overflow (cond b Underflow (cond c Delay (cond d TbOverflowKind (cond e TbBusy MbBusy))))))
     go true b c d e = p₀
     go false true c d e = p₁
     go false false true d e = p₂
@@ -101,7 +103,7 @@ kind_few (tb_busy d) = omega arith
 kind_few (mb_busy d) = omega arith
 
 event_back : (e : Event) → event_of (kind_of e) (figure_of e) (decode_of e) ≡ e
-unfolding event_of kind_of figure_of decode_of
+unfolding event_of kind_at kind_of figure_of decode_of
 event_back (overflow b) = refl
 event_back (underflow t b) = refl
 event_back (delay t d) = refl

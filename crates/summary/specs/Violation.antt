@@ -1,6 +1,6 @@
 -- The violation that an event of a chain is: where and with which fields the Rust's branches and `analyze_tstd` call `record`.
 -- Chains 0 to 7 are those of the streams, chain 8 is the system's (and so would be any past it).
-use Rattle.std.specs.Prelude.{ℕ, ◌+◌, ◌-◌, ◌*◌, ◌/◌, ◌%◌, cond, get_or, T, ltb, eqb, Float}
+use Rattle.std.specs.Prelude.{ℕ, ◌+◌, ◌-◌, ◌*◌, ◌/◌, ◌%◌, cond, get_or, T, ltb, Float}
 use Rattle.std.specs.Float.{binary64}
 use Rattle.std.specs.Float.Ieee.{fits, to_unsigned}
 use Rattle.std.specs.Float.Ieee.Positive.{above}
@@ -12,6 +12,7 @@ use Rattle.profile.specs.declared.config.TStdStream.{TStdStream}
 use Rattle.profile.specs.declared.config.TStdConfig.{TStdConfig}
 use Rattle.profile.specs.Config.{unused_stream, system_pids}
 use Rattle.events.specs.Event.{Event, overflow, underflow, delay, tb_overflow, tb_busy, mb_busy, kind_of}
+use Rattle.summary.specs.Kinds.{kind_at, event_in}
 
 -- a figure in bytes, `as u64`
 abbrev pub whole_bytes : Float → ℕ
@@ -55,12 +56,7 @@ violation_of c chain e = cond (ltb chain 8) (stream_violation (get_or c.streams 
 
 -- the event of a kind
 unfoldable pub event_of : ℕ → Float → Float → Event
-event_of kind figure decode =
-    cond (eqb kind 0) (overflow figure)
-    (cond (eqb kind 1) (underflow decode figure)
-    (cond (eqb kind 2) (delay decode figure)
-    (cond (eqb kind 3) (tb_overflow figure)
-    (cond (eqb kind 4) (tb_busy figure) (mb_busy figure)))))
+event_of kind figure decode = event_in (kind_at kind) figure decode
 
 -- each chain has six slots, from slot 1 on
 abbrev pub slot_of : ℕ → Event → ℕ

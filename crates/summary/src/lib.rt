@@ -3,11 +3,12 @@
 #![tactic(auto)]
 
 ghost use Rattle.std.specs.Prelude.{◌≡◌};
-ghost use Rattle.summary.specs.Violation.{overflow_in, underflow_in, stream_violation, system_violation, system_pid, event_of, slot_violation};
+ghost use Rattle.summary.specs.Violation.{overflow_in, underflow_in, stream_violation, system_violation, system_pid, slot_violation};
+ghost use Rattle.summary.specs.Kinds.{kind_at, event_in};
 ghost use Rattle.summary.specs.Next.{NextSlot};
 ghost use Rattle.summary.specs.Summary.{summary};
 
-use events::{DELAY, OVERFLOW, Slots, TB_BUSY, TB_OVERFLOW, UNDERFLOW};
+use events::{EventKind, Slots};
 use profile::{TStdBranch, TStdConfig, TStdStream};
 use report::{TStdReport, TStdViolation};
 
@@ -47,45 +48,69 @@ fn underflow_in(branch: TStdBranch, pid: u16, decode_time: f64, missing_bytes: u
     }
 }
 
-// A kind is a slot's place in its chain, as `events` counts them, and so a number.
-#[tactic(auto, unfolding(crate::specs::Violation::stream_violation, crate::specs::Violation::event_of))]
-fn stream_violation(stream: TStdStream, kind: usize, figure: f64, decode_time: f64) -> TStdViolation
-    ensures { result ≡ stream_violation stream (event_of kind figure decode_time) }
+// The kind of a slot by its place in its chain.
+#[tactic(auto, unfolding(crate::specs::Kinds::kind_at))]
+fn kind_at(place: usize) -> EventKind
+    ensures { result ≡ kind_at place }
+{
+    match place {
+        0 => EventKind::Overflow,
+        1 => EventKind::Underflow,
+        2 => EventKind::Delay,
+        3 => EventKind::TbOverflow,
+        4 => EventKind::TbBusy,
+        _ => EventKind::MbBusy,
+    }
+}
+
+#[tactic(auto, unfolding(crate::specs::Violation::stream_violation))]
+fn stream_violation(
+    stream: TStdStream,
+    kind: EventKind,
+    figure: f64,
+    decode_time: f64,
+) -> TStdViolation
+    ensures { result ≡ stream_violation stream (event_in kind figure decode_time) }
 {
     let pid = stream.pid;
     match kind {
-        OVERFLOW => overflow_in(stream.model.branch, pid, ieee::to_u64(figure)),
-        UNDERFLOW => underflow_in(stream.model.branch, pid, decode_time, ieee::to_u64(figure)),
-        DELAY => TStdViolation::DelayOverOneSecond {
+        EventKind::Overflow => overflow_in(stream.model.branch, pid, ieee::to_u64(figure)),
+        EventKind::Underflow => underflow_in(
+            stream.model.branch,
+            pid,
+            decode_time,
+            ieee::to_u64(figure),
+        ),
+        EventKind::Delay => TStdViolation::DelayOverOneSecond {
             pid,
             decode_time,
             delay_seconds: figure,
         },
-        TB_OVERFLOW => TStdViolation::TbOverflow {
+        EventKind::TbOverflow => TStdViolation::TbOverflow {
             pid,
             peak_bytes: ieee::to_u64(figure),
         },
-        TB_BUSY => TStdViolation::TbBusyOverOneSecond {
+        EventKind::TbBusy => TStdViolation::TbBusyOverOneSecond {
             pid,
             seconds: figure,
         },
-        _ => TStdViolation::MbBusyOverOneSecond {
+        EventKind::MbBusy => TStdViolation::MbBusyOverOneSecond {
             pid,
             seconds: figure,
         },
     }
 }
 
-#[tactic(auto, unfolding(crate::specs::Violation::system_violation, crate::specs::Violation::event_of))]
-fn system_violation(pid: u16, kind: usize, figure: f64, decode_time: f64) -> TStdViolation
-    ensures { result ≡ system_violation pid (event_of kind figure decode_time) }
+#[tactic(auto, unfolding(crate::specs::Violation::system_violation))]
+fn system_violation(pid: u16, kind: EventKind, figure: f64, decode_time: f64) -> TStdViolation
+    ensures { result ≡ system_violation pid (event_in kind figure decode_time) }
 {
     match kind {
-        TB_OVERFLOW => TStdViolation::TbOverflow {
+        EventKind::TbOverflow => TStdViolation::TbOverflow {
             pid,
             peak_bytes: ieee::to_u64(figure),
         },
-        TB_BUSY => TStdViolation::TbBusyOverOneSecond {
+        EventKind::TbBusy => TStdViolation::TbBusyOverOneSecond {
             pid,
             seconds: figure,
         },
@@ -113,7 +138,7 @@ pub fn violation(config: TStdConfig, k: usize, figure: f64, decode_time: f64) ->
 {
     let before = k.saturating_sub(1);
     let chain = before / 6;
-    let kind = before % 6;
+    let kind = kind_at(before % 6);
     if chain < 8 {
         stream_violation(config.streams[chain], kind, figure, decode_time)
     } else {
