@@ -3,4 +3,4 @@ use Rattle.tstd.proofs.Moments.{tb_noted}
 use Rattle.tstd.proofs.front.note_tb.Goals as goal
 
 pub returns : goal.returns
-returns c = tb_noted _ _ _ _ _ c.note_if.ensures c.note_if-2.ensures
+returns c = tb_noted _ _ _ _ _ c.note_kind_if.ensures c.note_kind_if-2.ensures
