@@ -303,8 +303,7 @@ fn turns(l: Leak, m: VideoLayout, work: &[f64], t: f64) -> Turned
         total: None,
         leak: l,
     };
-    let mut left = BUDGET;
-    while 0 < left {
+    for _ in 0..BUDGET {
         if s.total.is_some() {
             break;
         }
@@ -312,7 +311,6 @@ fn turns(l: Leak, m: VideoLayout, work: &[f64], t: f64) -> Turned
             break;
         }
         s = turn(s.leak, m, work, t);
-        left = left - 1;
     }
     s
 }
