@@ -79,6 +79,7 @@ impl Slots {
             self.note(k, figure, decode);
         }
     }
+
     // The same for a kind of the chain whose slots begin at chain_k. Ruled out: the event in the slot of another kind; a chain_k near
     // its type's end that comes round to a slot.
     pub fn note_kind_if(
