@@ -113,6 +113,7 @@ fn byte_or_zero(raw: &[u8], at: usize) -> u8
 }
 
 // A field of n bytes from a place on, if it is there, ends within the limit. Whether it is there is its flag, as in the table.
+#[tactic(auto, unfolding(crate::specs::AdaptationField::wants))]
 fn ends_within(on: bool, limit: usize, at: usize, n: usize) -> Result<(), Truncated>
     requires { (at < 1000) × (n < 1000) }
     ensures { result ≡ wants limit on at n (Ok tt) }
@@ -378,6 +379,7 @@ fn adaptation_field_of(raw: &[u8]) -> AdaptationField
 }
 
 // The adaptation field that is the whole of `raw`, its length byte first.
+#[tactic(auto, unfolding(crate::specs::AdaptationField::field_of, crate::specs::AdaptationField::field_in))]
 fn parse_adaptation_field(raw: &[u8]) -> Result<AdaptationField, Truncated>
     ensures { result ≡ field_of raw.now }
 {
@@ -467,6 +469,7 @@ fn part(bytes: &[u8], from: usize, n: usize) -> &[u8]
 
 // The payload of a packet, from `payload_start` on; none from 188 on.
 // Ruled out: bytes of the adaptation field; a part that ends before the packet.
+#[tactic(auto, unfolding(crate::specs::Packet::payload_of))]
 pub fn payload(bytes: &[u8], start: usize) -> &[u8]
     ensures { result.now ≡ payload_of bytes.now start }
 {
@@ -475,6 +478,7 @@ pub fn payload(bytes: &[u8], start: usize) -> &[u8]
 
 // The private data of a packet, by the start and the length that its adaptation field has.
 // Ruled out: the byte of the length; bytes behind them.
+#[tactic(auto, unfolding(crate::specs::Packet::private_data_of))]
 pub fn private_data(bytes: &[u8], start: usize, len: usize) -> &[u8]
     ensures { result.now ≡ private_data_of bytes.now start len }
 {
@@ -523,6 +527,7 @@ fn on_grid(buf: &[u8], size: usize, off: usize) -> bool
 
 // The layout of a recording by its first packets; the tests stand in the order in which they are tried.
 // Ruled out: a layout on one whole packet; one whose second packet has no sync byte.
+#[tactic(auto, unfolding(crate::specs::Layout::layout_of))]
 pub fn detect_packet_layout(buf: &[u8]) -> Option<TsPacketLayout>
     ensures { result ≡ layout_of buf.now }
 {
