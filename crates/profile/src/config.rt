@@ -1,5 +1,6 @@
 // The configuration of one replay: the Rust's TStdConfig, with depths, which the Rust's queues do not have. Slots past
-// stream_count and system_count are not looked at: arrays with a count, since a replay allocates nothing. The builders
+// stream_count and system_count are not looked at. Arrays with a count, since a configuration is copied (Copy) and a count
+// above the slots is kept, for the replay to refuse, which a slice or a vector of at most eight could not say. The builders
 // refuse nothing: a result outside the limits, as a model of video_low_main_level can be, is left to the replay.
 ghost use Rattle.std.specs.Prelude.{◌≡◌};
 ghost use Rattle.profile.specs.Config.{stream_ok, default_config, with_pcr_pid, with_streams, with_system_pids, with_queue_depth, with_clock_depth, single_program};
@@ -33,12 +34,12 @@ pub(crate) fn stream_ok(stream: TStdStream) -> bool
     pid_ok(stream.pid) && rate_ok(stream.model.rx_bps) && branch_ok(stream.model.branch)
 }
 
-impl TStdConfig {
+impl Default for TStdConfig {
+    ghost is_default = { λ c. c ≡ default_config };
+
     // The Rust's default, with the deepest queues and clock.
     // Ruled out: a stream or system PID in use; depth 0, which the replay refuses.
-    pub fn default() -> Self
-        ensures { result ≡ default_config }
-    {
+    fn default() -> Self {
         let unused = TStdStream {
             pid: 0,
             model: TStdStreamModel {
@@ -56,7 +57,9 @@ impl TStdConfig {
             clock_depth: MAX_CLOCK_DEPTH,
         }
     }
+}
 
+impl TStdConfig {
     // Ruled out: a PID cut to 13 bits; any other field changed.
     pub fn with_pcr_pid(self, v: u16) -> Self
         ensures { result ≡ with_pcr_pid self v }
