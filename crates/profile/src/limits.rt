@@ -1,5 +1,5 @@
 // The test for number 1: whether a configuration is within the limits of document 01.
-ghost use Rattle.std.specs.Prelude.{◌≡◌, take};
+ghost use Rattle.std.specs.Prelude.{◌≡◌};
 ghost use Rattle.profile.specs.Range.{pid_ok};
 ghost use Rattle.profile.specs.Config.{stream_ok};
 ghost use Rattle.std.specs.List.{list_all};
@@ -52,16 +52,16 @@ impl Limits {
     }
 }
 
-fn streams_ok(streams: [TStdStream; MAX_STREAMS], count: usize) -> bool
-    ensures { result ≡ list_all stream_ok (take count streams) }
+fn streams_ok(streams: &[TStdStream]) -> bool
+    ensures { result ≡ list_all stream_ok streams.now }
 {
-    streams.iter().take(count).all(|stream| stream_ok(*stream))
+    streams.iter().all(|stream| stream_ok(*stream))
 }
 
-fn pids_ok(pids: [u16; MAX_SYSTEM_PIDS], count: usize) -> bool
-    ensures { result ≡ list_all pid_ok (take count pids) }
+fn pids_ok(pids: &[u16]) -> bool
+    ensures { result ≡ list_all pid_ok pids.now }
 {
-    pids.iter().take(count).all(|pid| pid_ok(*pid))
+    pids.iter().all(|pid| pid_ok(*pid))
 }
 
 // Ruled out: refusing a repeated stream PID, or what a slot past a count holds; a figure one outside its limit taken.
@@ -72,8 +72,8 @@ pub fn in_limits(config: TStdConfig, limits: Limits) -> bool
     pid_ok(config.pcr_pid)
         && config.stream_count <= MAX_STREAMS
         && config.system_count <= MAX_SYSTEM_PIDS
-        && (MIN_QUEUE_DEPTH <= config.queue_depth && config.queue_depth <= limits.deepest_queue)
-        && (MIN_CLOCK_DEPTH <= config.clock_depth && config.clock_depth <= MAX_CLOCK_DEPTH)
-        && streams_ok(config.streams, config.stream_count)
-        && pids_ok(config.system_pids, config.system_count)
+        && (MIN_QUEUE_DEPTH..=limits.deepest_queue).contains(&config.queue_depth)
+        && (MIN_CLOCK_DEPTH..=MAX_CLOCK_DEPTH).contains(&config.clock_depth)
+        && streams_ok(&config.streams[..config.stream_count])
+        && pids_ok(&config.system_pids[..config.system_count])
 }

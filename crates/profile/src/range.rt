@@ -13,11 +13,11 @@ pub(crate) fn pid_ok(pid: u16) -> bool
 pub(crate) fn rate_ok(rate: u64) -> bool
     ensures { result ≡ rate_ok rate }
 {
-    MIN_RATE_BPS <= rate && rate <= MAX_RATE_BPS
+    (MIN_RATE_BPS..=MAX_RATE_BPS).contains(&rate)
 }
 
 pub(crate) fn size_ok(size: usize) -> bool
     ensures { result ≡ size_ok size }
 {
-    MIN_SIZE <= size && size <= MAX_SIZE
+    (MIN_SIZE..=MAX_SIZE).contains(&size)
 }
