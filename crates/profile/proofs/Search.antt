@@ -11,7 +11,7 @@ use borrow.Author.Tests.{eq-eqb, lt-ltb, eqb-true, eqb-false}
 use lib.Dec.{eqb, ltb, leb-suc-suc}
 use lib.ListN.{length, get_or}
 use Rattle.std.specs.Prelude.{Option, Some, None}
-use Rattle.std.specs.List.{position, position_or_len}
+use Rattle.std.specs.List.{list_any, position, position_or_len}
 use Rattle.profile.specs.Owner.{contains, first_index}
 
 -- an entry is the PID exactly if the search ends before the length
@@ -68,6 +68,15 @@ module _ (pid : ℕ) where
       by_place (inr m) ih = rw (ih m) (or_true (eqb p pid))
 
 module _ (pid : ℕ) where
+  -- std's test of each entry is the same
+  any_contains : (l : List ℕ) → list_any (λ p. eqb p pid) l ≡ contains l pid
+  unfolding contains
+  any_contains [] = refl
+  any_contains (p ∷ l) = rw (any_contains l) refl
+
+  pub any_is : (l : List ℕ) {r b : Bool} → r ≡ list_any (λ p. eqb p pid) l → r ≡ b → contains l pid ≡ b
+  any_is l e f = sym (any_contains l) ∙ sym e ∙ f
+
   -- std's search gives the same index
   position_index : (l : List ℕ) → position_or_len (λ p. eqb p pid) l ≡ first_index l pid
   unfolding first_index

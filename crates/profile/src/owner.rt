@@ -1,6 +1,6 @@
 // Whose packets a PID carries: the first stream of that PID, else the system branch, else nobody's.
 ghost use Rattle.std.specs.Prelude.{◌≡◌, take, eqb};
-ghost use Rattle.std.specs.List.{position};
+ghost use Rattle.std.specs.List.{list_any, position};
 ghost use Rattle.profile.specs.Owner.{owner_of, owner_by, pids_of};
 
 use crate::config::TStdConfig;
@@ -23,24 +23,34 @@ pub struct Pids {
     pub system_count: usize,
 }
 
-// Of the first count PIDs the index of the first that is this one.
-fn index_of(pids: &[u16], count: usize, pid: u16) -> Option<usize>
-    ensures { result ≡ position (λ p. eqb p pid) (take count pids.now) }
-{
-    pids.iter().take(count).position(|p| *p == pid)
-}
-
 impl Pids {
+    // The first stream of the PID.
+    fn stream_of(self, pid: u16) -> Option<usize>
+        ensures { result ≡ position (λ p. eqb p pid) (take self.stream_count self.streams) }
+    {
+        self.streams
+            .iter()
+            .take(self.stream_count)
+            .position(|p| *p == pid)
+    }
+
+    fn is_system(self, pid: u16) -> bool
+        ensures { result ≡ list_any (λ p. eqb p pid) (take self.system_count self.system) }
+    {
+        self.system
+            .iter()
+            .take(self.system_count)
+            .any(|p| *p == pid)
+    }
+
     // Ruled out: the last of two streams of the PID; the system branch for a PID that is in both lists.
-    #[tactic(auto, using(crate::proofs::Ownership::owner_stream, crate::proofs::Ownership::owner_system, crate::proofs::Ownership::owner_nobody, crate::proofs::Search::index_some, crate::proofs::Search::index_none))]
+    #[tactic(auto, using(crate::proofs::Ownership::owner_stream, crate::proofs::Ownership::owner_system, crate::proofs::Ownership::owner_nobody, crate::proofs::Search::index_some, crate::proofs::Search::index_none, crate::proofs::Search::any_is))]
     pub fn owner(self, pid: u16) -> Owner
         ensures { result ≡ owner_by self pid }
     {
-        if let Some(i) = index_of(&self.streams, self.stream_count, pid) {
-            return Owner::Stream(i);
-        }
-        match index_of(&self.system, self.system_count, pid) {
-            Some(_) => Owner::System,
+        match self.stream_of(pid) {
+            Some(i) => Owner::Stream(i),
+            None if self.is_system(pid) => Owner::System,
             None => Owner::Nobody,
         }
     }
