@@ -14,9 +14,9 @@ use Rattle.events.proofs.Noted.{noted_all_append_lem, noted_all_when_lem}
 use Rattle.branch.specs.declared.AccessUnit.{AccessUnit}
 use Rattle.branch.specs.declared.queue.Place.{Place}
 use Rattle.branch.specs.declared.queue.Ring.{Ring}
-use Rattle.branch.specs.declared.video_branch.VideoLayout.{VideoLayout}
+use Rattle.branch.specs.declared.leak.VideoLayout.{VideoLayout}
 use Rattle.branch.specs.declared.video_branch.VideoBranch.{VideoBranch}
-use Rattle.branch.specs.declared.video_branch.Leak.{Leak as LeakState}
+use Rattle.branch.specs.declared.leak.Leak.{Leak as LeakState}
 use Rattle.std.specs.Prelude.{Option, Some, None}
 use Rattle.std.proofs.lemmas.Option.{none-some, cond_some}
 use Rattle.branch.specs.Queue.{Lies, place_of, entries, pop_def}

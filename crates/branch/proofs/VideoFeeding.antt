@@ -16,9 +16,9 @@ use Rattle.branch.specs.declared.Delivered.{Delivered}
 use Rattle.branch.specs.declared.inflow.CumulativeIn.{CumulativeIn}
 use Rattle.std.specs.Prelude.{Option, Some, None}
 use Rattle.branch.specs.declared.queue.Ring.{Ring}
-use Rattle.branch.specs.declared.video_branch.VideoLayout.{VideoLayout}
+use Rattle.branch.specs.declared.leak.VideoLayout.{VideoLayout}
 use Rattle.branch.specs.declared.video_branch.VideoBranch.{VideoBranch}
-use Rattle.branch.specs.declared.video_branch.Leak.{Leak as LeakState}
+use Rattle.branch.specs.declared.leak.Leak.{Leak as LeakState}
 use Rattle.branch.specs.declared.video_branch.Stepped.{Stepped}
 use Rattle.branch.specs.Queue.{Lies, SameOutside, floats_at, entries, PushedTo}
 use Rattle.branch.specs.CumulativeIn.{Inflow, run_refused}

@@ -16,7 +16,7 @@ use Rattle.events.specs.Slots.{noted_all}
 use Rattle.events.proofs.Noted.{noted_all_append_lem}
 use Rattle.branch.specs.declared.Delivered.{Delivered}
 use Rattle.branch.specs.declared.video_branch.VideoModel.{VideoModel}
-use Rattle.branch.specs.declared.video_branch.VideoLayout.{VideoLayout}
+use Rattle.branch.specs.declared.leak.VideoLayout.{VideoLayout}
 use Rattle.branch.specs.declared.video_branch.VideoBranch.{VideoBranch}
 use Rattle.branch.specs.declared.video_branch.Stepped.{Stepped}
 use Rattle.branch.specs.Queue.{entries, entries_from}

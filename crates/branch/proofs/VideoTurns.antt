@@ -13,10 +13,10 @@ use Rattle.std.proofs.lemmas.Option.{none-some}
 use Rattle.branch.proofs.Rings.{some_is}
 use Rattle.branch.specs.declared.inflow.Arrived.{Arrived}
 use Rattle.branch.specs.InflowInWork.{inflow_of, ArrivedTo}
-use Rattle.branch.specs.declared.video_branch.VideoLayout.{VideoLayout}
-use Rattle.branch.specs.declared.video_branch.Flow.{Flow}
-use Rattle.branch.specs.declared.video_branch.Leak.{Leak as LeakState}
-use Rattle.branch.specs.declared.video_branch.Turned.{Turned as TurnState}
+use Rattle.branch.specs.declared.leak.VideoLayout.{VideoLayout}
+use Rattle.branch.specs.declared.leak.Flow.{Flow}
+use Rattle.branch.specs.declared.leak.Leak.{Leak as LeakState}
+use Rattle.branch.specs.declared.leak.Turned.{Turned as TurnState}
 use Rattle.branch.specs.CumulativeIn.{Inflow, settle, arrived_by, time_of_cumulative}
 use Rattle.branch.specs.VideoBranch.{VideoRates, Transfer, transfer, Leak, mb_fullness, eb_room, since_seen, longest_seen, looked, stalled, gone, Turned, on, break, arriving, pace_take, filled, paced, backlog_take, backlogged, step, turn, turns, ran, started, closed, leak_until, leak_events}
 use Rattle.events.specs.Event.{Event, overflow, when}

@@ -16,12 +16,12 @@ use Rattle.branch.specs.declared.HeaderMark.{HeaderMark}
 use Rattle.branch.specs.declared.queue.Place.{Place}
 use Rattle.branch.specs.declared.queue.Ring.{Ring}
 use Rattle.branch.specs.declared.video_branch.VideoModel.{VideoModel}
-use Rattle.branch.specs.declared.video_branch.VideoLayout.{VideoLayout}
-use Rattle.branch.specs.declared.video_branch.Flow.{Flow}
-use Rattle.branch.specs.declared.video_branch.Headers.{Headers}
-use Rattle.branch.specs.declared.video_branch.Leak.{Leak as LeakState}
-use Rattle.branch.specs.declared.video_branch.Looked.{Looked}
-use Rattle.branch.specs.declared.video_branch.Turned.{Turned as TurnState}
+use Rattle.branch.specs.declared.leak.VideoLayout.{VideoLayout}
+use Rattle.branch.specs.declared.leak.Flow.{Flow}
+use Rattle.branch.specs.declared.leak.Headers.{Headers}
+use Rattle.branch.specs.declared.leak.Leak.{Leak as LeakState}
+use Rattle.branch.specs.declared.leak.Looked.{Looked}
+use Rattle.branch.specs.declared.leak.Turned.{Turned as TurnState}
 use Rattle.branch.specs.declared.video_branch.VideoBranch.{VideoBranch}
 use Rattle.branch.specs.declared.video_branch.Stepped.{Stepped}
 use Rattle.branch.specs.Queue.{Lies, fits, SameOutside, entries, floats_at, pop_def}

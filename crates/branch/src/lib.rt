@@ -2,6 +2,7 @@
 #![tactic(auto)]
 
 pub mod inflow;
+pub mod leak;
 pub mod main_branch;
 pub mod queue;
 pub mod sys_branch;

@@ -4,7 +4,7 @@ use Rattle.std.specs.Float.{nan}
 use Rattle.fifo.specs.declared.FluidFifo.{FluidFifo}
 use Rattle.fifo.specs.FluidFifo.{new}
 use Rattle.branch.specs.declared.main_branch.MainBranch.{MainBranch}
-use Rattle.branch.specs.declared.video_branch.Leak.{Leak}
+use Rattle.branch.specs.declared.leak.Leak.{Leak}
 use Rattle.branch.specs.declared.video_branch.VideoBranch.{VideoBranch}
 use Rattle.branch.specs.Stores.{store_from}
 use Rattle.branch.specs.MainInWork as main-work

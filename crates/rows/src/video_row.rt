@@ -6,8 +6,9 @@ ghost use Rattle.rows.specs.Rows.{video_leak_at, read_video, leak_floats, leak_c
 use crate::{CHAINS, COUNTS, FLOATS, places};
 use branch::AccessUnit;
 use branch::inflow::CumulativeIn;
+use branch::leak::{Flow, Leak};
 use branch::queue::Ring;
-use branch::video_branch::{Flow, Leak, VideoBranch};
+use branch::video_branch::VideoBranch;
 
 // MBn and what it leaked, of a chain whose floats begin at b and whose counts begin at c.
 fn leak_at(floats: &[f64; FLOATS], counts: &[u64; COUNTS], b: usize, c: usize) -> Leak

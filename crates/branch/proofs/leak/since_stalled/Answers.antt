@@ -1,6 +1,6 @@
--- `branch::video_branch::since_stalled` meets its contract. Assumes nothing.
+-- `branch::leak::since_stalled` meets its contract. Assumes nothing.
 use lib.Ieee.{of_bits}
-use Rattle.branch.proofs.video_branch.since_stalled.Goals as goal
+use Rattle.branch.proofs.leak.since_stalled.Goals as goal
 
 pub returns-then-over : goal.returns-then-over
 unfolding of_bits

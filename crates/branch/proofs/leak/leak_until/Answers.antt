@@ -1,7 +1,7 @@
--- `branch::video_branch::leak_until` meets its contract. Assumes nothing.
+-- `branch::leak::leak_until` meets its contract. Assumes nothing.
 use lib.Ieee.{of_bits}
 use Rattle.branch.proofs.VideoTurns.{leak_first, leak_rest}
-use Rattle.branch.proofs.video_branch.leak_until.Goals as goal
+use Rattle.branch.proofs.leak.leak_until.Goals as goal
 
 pub returns-then-l : goal.returns-then-l
 unfolding of_bits

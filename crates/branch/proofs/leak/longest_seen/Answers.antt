@@ -1,7 +1,7 @@
--- `branch::video_branch::longest_seen` meets its contract. Assumes nothing.
+-- `branch::leak::longest_seen` meets its contract. Assumes nothing.
 use lib.Ieee.{of_bits}
 use Rattle.branch.specs.VideoBranch.{longest_seen}
-use Rattle.branch.proofs.video_branch.longest_seen.Goals as goal
+use Rattle.branch.proofs.leak.longest_seen.Goals as goal
 
 pub returns-then-over : goal.returns-then-over
 unfolding longest_seen of_bits

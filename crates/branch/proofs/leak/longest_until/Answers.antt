@@ -1,6 +1,6 @@
--- `branch::video_branch::longest_until` meets its contract. Assumes nothing.
+-- `branch::leak::longest_until` meets its contract. Assumes nothing.
 use lib.Ieee.{of_bits}
-use Rattle.branch.proofs.video_branch.longest_until.Goals as goal
+use Rattle.branch.proofs.leak.longest_until.Goals as goal
 
 pub returns-then-since : goal.returns-then-since
 unfolding of_bits

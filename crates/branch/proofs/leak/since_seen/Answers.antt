@@ -1,7 +1,7 @@
--- `branch::video_branch::since_seen` meets its contract. Assumes nothing.
+-- `branch::leak::since_seen` meets its contract. Assumes nothing.
 use lib.Ieee.{of_bits}
 use Rattle.branch.specs.VideoBranch.{since_seen}
-use Rattle.branch.proofs.video_branch.since_seen.Goals as goal
+use Rattle.branch.proofs.leak.since_seen.Goals as goal
 
 pub returns-then-since : goal.returns-then-since
 unfolding since_seen of_bits

@@ -1,7 +1,7 @@
--- `branch::video_branch::backlogged` meets its contract. Assumes nothing.
+-- `branch::leak::backlogged` meets its contract. Assumes nothing.
 use Rattle.branch.proofs.VideoTurns.{backlogged_by}
 use Rattle.branch.specs.VideoInWork.{leak_of, rates_of}
-use Rattle.branch.proofs.video_branch.backlogged.Goals as goal
+use Rattle.branch.proofs.leak.backlogged.Goals as goal
 
 pub returns : goal.returns
 unfolding leak_of

@@ -1,7 +1,7 @@
--- `branch::video_branch::look` meets its contract. Assumes nothing.
+-- `branch::leak::look` meets its contract. Assumes nothing.
 use Rattle.branch.proofs.VideoTurns.{full_by, look_by}
 use Rattle.branch.specs.VideoInWork.{leak_of, flow_of}
-use Rattle.branch.proofs.video_branch.look.Goals as goal
+use Rattle.branch.proofs.leak.look.Goals as goal
 
 pub returns : goal.returns
 unfolding leak_of flow_of

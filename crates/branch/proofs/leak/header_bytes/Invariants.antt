@@ -1,6 +1,6 @@
--- `branch::video_branch::header_bytes` meets its contract. Assumes nothing.
+-- `branch::leak::header_bytes` meets its contract. Assumes nothing.
 use Rattle.branch.proofs.HeaderMarks.{Passing}
-use Rattle.branch.proofs.video_branch.header_bytes.Given as goal
+use Rattle.branch.proofs.leak.header_bytes.Given as goal
 
 abbrev pub invariant-loop-q : goal.invariant-loop-q
 invariant-loop-q l = Passing l.work l.w l.start l.end l.initial.q l.q l.sum

@@ -1,9 +1,9 @@
--- `branch::video_branch::stalled` meets its contract. Assumes nothing.
+-- `branch::leak::stalled` meets its contract. Assumes nothing.
 use mathlib.Core.Path.{refl}
 use Rattle.branch.proofs.Rings.{some_is}
 use Rattle.branch.proofs.VideoTurns.{full_by, stalled_by, settled_at_lem}
 use Rattle.branch.specs.VideoInWork.{leak_of, flow_of}
-use Rattle.branch.proofs.video_branch.stalled.Goals as goal
+use Rattle.branch.proofs.leak.stalled.Goals as goal
 
 pub returns : goal.returns
 unfolding leak_of flow_of

@@ -1,0 +1,360 @@
+// The leak of a video chain: bytes leave MBn at Rbxn, those of PES headers are dropped, and the others enter EBn (H.222.0, 2.4.2.3, leak
+// method).
+ghost use Rattle.std.specs.Prelude.{◌≡◌, true, cond, Float, Some, ◌≤◌};
+ghost use Rattle.std.specs.Float.{inf, binary64};
+ghost use Rattle.std.specs.Float.Ieee.{eq, sub};
+ghost use Rattle.ieee.specs.MaxMin.{max_of};
+ghost use Rattle.branch.specs.Queue.{Lies};
+ghost use Rattle.branch.specs.VideoBranch.{overlap as overlapOf, since_seen, longest_seen, eb_room, mb_fullness, looked, stalled as stalledOf, paced as pacedOf, backlogged as backloggedOf, break, step as step_of, ran};
+ghost use Rattle.branch.specs.VideoInWork.{rates_of, flow_of, leak_of, HeadersBy, Transferred, LeakLies, LeakIs, LooksBy, TurnIs, SettledAt, TurnsEnd, ReachedBy, ClosedBy, LeaksTo};
+
+use crate::HeaderMark;
+use crate::inflow::CumulativeIn;
+use crate::queue::{Place, Ring, entry, pop};
+use events::{EventKind, Slots};
+use ieee::{max, min};
+
+// The rate Rbxn in bytes a second, the sizes MBSn and EBSn in bytes, and where the three rings stand in the work.
+#[derive(Clone, Copy)]
+pub struct VideoLayout {
+    pub rbx: f64,
+    pub mb_size: f64,
+    pub eb_size: f64,
+    pub runs: Place,
+    pub units: Place,
+    pub marks: Place,
+}
+
+// What a transfer changes: the header marks ahead, the bytes out of MBn, and the bytes into and out of EBn.
+#[derive(Clone, Copy)]
+pub struct Flow {
+    pub marks: Ring,
+    pub transferred: f64,
+    pub eb_in: f64,
+    pub eb_removed: f64,
+    pub eb_peak: f64,
+}
+
+// The leak. busy_since is -infinity while MBn is not busy, and proc_time is -infinity before the first leak: floats alone, no Option.
+#[derive(Clone, Copy)]
+pub struct Leak {
+    pub mb_in: CumulativeIn,
+    pub flow: Flow,
+    pub busy_since: f64,
+    pub longest_busy: f64,
+    pub mb_peak: f64,
+    pub proc_time: f64,
+}
+
+#[derive(Clone, Copy)]
+pub struct Headers {
+    marks: Ring,
+    bytes: f64,
+}
+
+#[derive(Clone, Copy)]
+pub struct Looked {
+    leak: Leak,
+    available: f64,
+}
+
+// What a turn gives: total is what has arrived by t where the loop ends, and none where it goes on.
+#[derive(Clone, Copy)]
+pub struct Turned {
+    total: Option<f64>,
+    leak: Leak,
+}
+
+// The bytes of a mark between start and end.
+#[tactic(auto, unfolding(crate::specs::VideoBranch::overlap))]
+fn overlap(m: HeaderMark, start: f64, end: f64) -> f64
+    ensures { result ≡ overlapOf m start end }
+{
+    max(
+        min(end, m.threshold) - max(start, m.threshold - m.bytes),
+        0.0,
+    )
+}
+
+// The marked bytes between start and end; the marks that end there go.
+fn header_bytes(first: Ring, w: Place, work: &[f64], start: f64, end: f64) -> Headers
+    requires { Lies 2 work.now w first }
+    ensures { HeadersBy work.now w first start end result }
+{
+    let mut q = first;
+    let mut sum = 0.0;
+    while 0 < q.count {
+        let [threshold, bytes] = entry::<2>(q, w, work, 0);
+        let m = HeaderMark { threshold, bytes };
+        if m.threshold - m.bytes >= end {
+            break;
+        }
+        sum = sum + overlap(m, start, end);
+        if m.threshold <= end {
+            q = pop(q, w);
+        } else {
+            break;
+        }
+    }
+    Headers {
+        marks: q,
+        bytes: sum,
+    }
+}
+
+// Bytes leave MBn: those that are marked are dropped, the others enter EBn.
+#[tactic(auto, unfolding(crate::specs::VideoBranch::transfer, crate::specs::VideoBranch::moved, crate::specs::VideoBranch::eb_in_after, crate::specs::VideoInWork::flow_of))]
+fn transfer(f: Flow, w: Place, work: &[f64], bytes: f64) -> Flow
+    requires { Lies 2 work.now w f.marks }
+    ensures { Transferred work.now w f bytes result }
+{
+    if bytes <= 0.0 {
+        return f;
+    }
+    let end = f.transferred + bytes;
+    let h = header_bytes(f.marks, w, work, f.transferred, end);
+    let eb_in = f.eb_in + (bytes - h.bytes);
+    Flow {
+        marks: h.marks,
+        transferred: end,
+        eb_in,
+        eb_peak: max(f.eb_peak, eb_in - f.eb_removed),
+        ..f
+    }
+}
+
+// Where the busy stretch began, once a fullness over a byte or not is seen now.
+fn since_seen(since: f64, over: bool, now: f64) -> f64
+    ensures { result ≡ since_seen since over now }
+{
+    if over {
+        if since == f64::NEG_INFINITY {
+            return now;
+        }
+        return since;
+    }
+    f64::NEG_INFINITY
+}
+
+// The longest busy stretch, once a fullness over a byte or not is seen now.
+fn longest_seen(longest: f64, since: f64, over: bool, now: f64) -> f64
+    ensures { result ≡ longest_seen longest since over now }
+{
+    if over {
+        return longest;
+    }
+    if since == f64::NEG_INFINITY {
+        return longest;
+    }
+    max(longest, now - since)
+}
+
+// Where the busy stretch began, once EBn is full and MBn holds more than a byte, or not, at the end.
+fn since_stalled(since: f64, over: bool, now: f64) -> f64
+    ensures { result ≡ cond (eq since (inf true)) (cond over now (inf true)) since }
+{
+    if since == f64::NEG_INFINITY {
+        if over {
+            return now;
+        }
+        return f64::NEG_INFINITY;
+    }
+    since
+}
+
+// The longest busy stretch, where one that has not ended counts up to t.
+fn longest_until(longest: f64, since: f64, t: f64) -> f64
+    ensures { result ≡ cond (eq since (inf true)) longest (max_of longest (sub binary64 t since)) }
+{
+    if since == f64::NEG_INFINITY {
+        return longest;
+    }
+    max(longest, t - since)
+}
+
+// MBn at the leak's time: what waits there, its peak and its busy stretch.
+fn look(l: Leak, m: VideoLayout, work: &[f64]) -> Looked
+    requires { LeakLies work.now m l }
+    ensures { LooksBy work.now m l result }
+{
+    let now = l.proc_time;
+    let got = l.mb_in.arrived_by(m.runs, work, now);
+    let available = got.total - l.flow.transferred;
+    let over = available > 1.0;
+    Looked {
+        leak: Leak {
+            mb_in: got.inflow,
+            busy_since: since_seen(l.busy_since, over, now),
+            longest_busy: longest_seen(l.longest_busy, l.busy_since, over, now),
+            mb_peak: max(l.mb_peak, available),
+            ..l
+        },
+        available,
+    }
+}
+
+// EBn is full: all that arrives up to t stays in MBn.
+fn stalled(l: Leak, m: VideoLayout, work: &[f64], t: f64) -> Turned
+    requires { LeakLies work.now m l }
+    ensures { TurnIs work.now m t result (break (stalledOf (leak_of work.now m l) t)) }
+{
+    let got = l.mb_in.arrived_by(m.runs, work, t);
+    let fullness = got.total - l.flow.transferred;
+    Turned {
+        total: Some(got.total),
+        leak: Leak {
+            mb_in: got.inflow,
+            busy_since: since_stalled(l.busy_since, fullness > 1.0, l.proc_time),
+            mb_peak: max(l.mb_peak, fullness),
+            proc_time: t,
+            ..l
+        },
+    }
+}
+
+// The leak keeps pace: what arrives up to t leaves, or as much as EBn has room for. Where EBn fills up on the way, the leak goes on from
+// the time of that byte.
+fn paced(l: Leak, m: VideoLayout, work: &[f64], t: f64, available: f64, room: f64) -> Turned
+    requires { LeakLies work.now m l }
+    ensures { TurnIs work.now m t result (pacedOf (leak_of work.now m l) t available room) }
+{
+    let got = l.mb_in.arrived_by(m.runs, work, t);
+    let arriving = got.total - l.flow.transferred - available;
+    let take = min(arriving, max(room, 0.0));
+    let flow = transfer(l.flow, m.marks, work, max(take, 0.0));
+    let mut next = Turned {
+        total: Some(got.total),
+        leak: Leak {
+            mb_in: got.inflow,
+            flow,
+            proc_time: t,
+            ..l
+        },
+    };
+    if take + 1.0 < arriving {
+        if let Some(tt) = got
+            .inflow
+            .time_of_cumulative(m.runs, work, flow.transferred)
+        {
+            next.total = None;
+            next.leak.proc_time = max(tt, l.proc_time);
+        }
+    }
+    next
+}
+
+// Bytes wait: they leave at the rate up to t, or all of them, or as many as EBn has room for.
+fn backlogged(l: Leak, m: VideoLayout, work: &[f64], t: f64, available: f64, room: f64) -> Leak
+    requires { LeakLies work.now m l }
+    ensures { LeakIs work.now m result (backloggedOf (rates_of m) (leak_of work.now m l) t available room) }
+{
+    let now = l.proc_time;
+    let take = min(min(m.rbx * (t - now), available), room);
+    Leak {
+        flow: transfer(l.flow, m.marks, work, take),
+        proc_time: now + max(take / m.rbx, 1e-6),
+        ..l
+    }
+}
+
+// A turn of the leak toward t.
+fn turn(l: Leak, m: VideoLayout, work: &[f64], t: f64) -> Turned
+    requires { LeakLies work.now m l }
+    ensures { TurnIs work.now m t result (step_of (rates_of m) t (looked (leak_of work.now m l)) (mb_fullness (leak_of work.now m l) l.proc_time) (eb_room (rates_of m) (flow_of work.now m.marks l.flow))) }
+{
+    let room = m.eb_size - (l.flow.eb_in - l.flow.eb_removed);
+    let s = look(l, m, work);
+    if room <= 1.0 {
+        return stalled(s.leak, m, work, t);
+    }
+    if s.available <= 1.0 {
+        return paced(s.leak, m, work, t, s.available, room);
+    }
+    Turned {
+        total: None,
+        leak: backlogged(s.leak, m, work, t, s.available, room),
+    }
+}
+
+// The most turns of a leak: 2^25 + 4, more than any takes.
+const BUDGET: u64 = 33554436;
+
+// Turns until the leak has come to t.
+fn turns(l: Leak, m: VideoLayout, work: &[f64], t: f64) -> Turned
+    requires { LeakLies work.now m l }
+    ensures { TurnsEnd work.now m t result (ran (rates_of m) t (leak_of work.now m l)) }
+{
+    let mut s = Turned {
+        total: None,
+        leak: l,
+    };
+    for _ in 0..BUDGET {
+        if s.total.is_some() {
+            break;
+        }
+        if !(s.leak.proc_time < t - 1e-6) {
+            break;
+        }
+        s = turn(s.leak, m, work, t);
+    }
+    s
+}
+
+// The runs up to t are settled, with what has arrived by then; a look at t that was the last one is not taken again.
+fn reached(s: Turned, m: VideoLayout, work: &[f64], t: f64) -> (Leak, f64)
+    requires leak_lies { LeakLies work.now m s.leak }
+    requires settled_at { (total : Float) → s.total ≡ Some total → SettledAt (leak_of work.now m s.leak).mb_in t total }
+    ensures { ReachedBy work.now m t s.leak result.0 result.1 }
+{
+    if let Some(total) = s.total {
+        return (s.leak, total);
+    }
+    let got = s.leak.mb_in.arrived_by(m.runs, work, t);
+    let leak = Leak {
+        mb_in: got.inflow,
+        ..s.leak
+    };
+    (leak, got.total)
+}
+
+// Behind the turns: MBn's peak, its overflow and its busy stretch at t, where total has arrived.
+fn closed(l: Leak, m: VideoLayout, total: f64, t: f64, slots: &mut Slots, k: usize) -> Leak
+    requires { k ≤ 64 }
+    ensures { ClosedBy m l total t k slots.old slots.new result }
+{
+    let fullness = total - l.flow.transferred;
+    slots.note_kind_if(
+        fullness > m.mb_size + 1.0,
+        k,
+        EventKind::Overflow,
+        fullness,
+        0.0,
+    );
+    Leak {
+        longest_busy: longest_until(l.longest_busy, l.busy_since, t),
+        mb_peak: max(l.mb_peak, fullness),
+        proc_time: max(l.proc_time, t),
+        ..l
+    }
+}
+
+// The leak up to t; the first call only sets the clock.
+pub(crate) fn leak_until(
+    l: Leak,
+    m: VideoLayout,
+    work: &[f64],
+    t: f64,
+    slots: &mut Slots,
+    k: usize,
+) -> Leak
+    requires leak_lies { LeakLies work.now m l }
+    requires k_bound { k ≤ 64 }
+    ensures { LeaksTo work.now m t k slots.old slots.new (leak_of work.now m l) result }
+{
+    if l.proc_time == f64::NEG_INFINITY {
+        return Leak { proc_time: t, ..l };
+    }
+    let s = turns(l, m, work, t);
+    let (leak, total) = reached(s, m, work, t);
+    closed(leak, m, total, t, slots, k)
+}
