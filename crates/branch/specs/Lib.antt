@@ -2,6 +2,8 @@ pub mod Stores
 pub mod Queue
 pub mod CumulativeIn
 pub mod InflowInWork
+pub mod Units
+pub mod UnitsInWork
 pub mod MainBranch
 pub mod MainInWork
 pub mod SysBranch

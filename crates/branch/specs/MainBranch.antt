@@ -8,12 +8,9 @@ use Rattle.events.specs.Event.{Event, overflow, underflow, delay, when}
 use Rattle.branch.specs.declared.Run.{Run}
 use Rattle.branch.specs.declared.AccessUnit.{AccessUnit}
 use Rattle.branch.specs.declared.Delivered.{Delivered}
+pub use Rattle.branch.specs.Units.{OpenAu, none, unit, open_of, stamp_of, grown}
+use Rattle.branch.specs.Units.{unit_events}
 use Rattle.branch.specs.CumulativeIn.{Inflow, settle, arrived_by, final_total, push_run, run_refused}
-
--- the unit whose bytes are arriving, if there is one
-pub data OpenAu : Type 0 where
-  none : OpenAu
-  unit : AccessUnit → OpenAu
 
 pub record Main : Type 0 where
   pub inflow : Inflow
@@ -38,9 +35,7 @@ pub record Drained : Type 0 where
 -- the removal of a unit: size is BSn, arrived what has arrived by the decode time, required what all units up to this one hold
 unfoldable pub removal_events : Float → Float → Float → Float → AccessUnit → List Event
 removal_events size arrived fullness required u =
-    when (lt (size ⊕ 1f) fullness) (overflow fullness)
-    ++ (when (lt (arrived ⊕ 1f) required) (underflow u.decode_time (required ⊖ arrived))
-    ++ when (lt (1f ⊕ 1e-6f) (u.decode_time ⊖ u.first_input_time)) (delay u.decode_time (u.decode_time ⊖ u.first_input_time)))
+    when (lt (size ⊕ 1f) fullness) (overflow fullness) ++ unit_events arrived required u
 
 unfoldable pub remove_events : Float → Main → AccessUnit → List Event
 remove_events size b u =
@@ -142,10 +137,6 @@ unfoldable pub open_unit : ℕ → OpenAu → Main → Fed
 open_unit depth none b = fed b
 open_unit depth (unit u) b = and_then (close_au depth b) (λ m. fed (with_units m m.pending (unit u)))
 
-unfoldable pub grown : Float → OpenAu → OpenAu
-grown bytes none = none
-grown bytes (unit u) = unit (record { decode_time = u.decode_time; bytes = u.bytes ⊕ bytes; first_input_time = u.first_input_time })
-
 -- a run: its bytes are the open unit's too
 unfoldable pub add_bytes : ℕ → Run → Main → Fed
 add_bytes depth r b =
@@ -165,13 +156,6 @@ add_bytes depth r b =
 -- 0 bytes are no run
 unfoldable pub add_run : ℕ → Run → Main → Fed
 add_run depth r b = cond (lt 0f r.bytes) (add_bytes depth r b) (fed b)
-
--- the code has a decode time of -∞ where there is no unit
-unfoldable pub open_of : AccessUnit → OpenAu
-open_of u = cond (ne u.decode_time -∞) (unit u) none
-
-unfoldable pub stamp_of : Delivered → OpenAu
-stamp_of d = open_of (record { decode_time = d.decode_time; bytes = 0f; first_input_time = d.first_input_time })
 
 -- the header bytes up to the stamp's end, those behind, and the content
 unfoldable pub deliver : ℕ → Delivered → Main → Fed

@@ -13,6 +13,7 @@ use Rattle.branch.specs.declared.main_branch.MainBranch.{MainBranch}
 use Rattle.branch.specs.declared.main_branch.Stepped.{Stepped}
 use Rattle.branch.specs.Queue.{Lies, fits, SameOutside, floats_at, entries}
 use Rattle.branch.specs.InflowInWork.{inflow_of}
+pub use Rattle.branch.specs.UnitsInWork.{unit_of, floats_of_unit, no_unit, no_entries}
 use Rattle.branch.specs.MainBranch.{Main, Drained, Fed, close_au, open_of, remove_unit, remove_events, Step, main_step}
 
 -- the ring of runs begins at base, and behind it stands that of the pending units, both of depth entries
@@ -21,13 +22,6 @@ runs_place p = record { base = p.base; depth = p.depth }
 
 abbrev pub units_place : MainModel → Place
 units_place p = record { base = p.base + 3 * p.depth; depth = p.depth }
-
--- an entry's floats are the decode time, the bytes and the first input time
-abbrev pub unit_of : List Float → AccessUnit
-unit_of e = record { decode_time = get_or e 0 nan; bytes = get_or e 1 nan; first_input_time = get_or e 2 nan }
-
-abbrev pub floats_of_unit : AccessUnit → List Float
-floats_of_unit u = u.decode_time ∷ (u.bytes ∷ (u.first_input_time ∷ []))
 
 abbrev pub units_of : List Float → MainModel → Ring → List AccessUnit
 units_of w p q = entries 3 (λ u o. unit_of (floats_at 3 u o)) w (units_place p) q
@@ -46,12 +40,6 @@ main_of w p b =
     }
 
 -- a new branch
-abbrev pub no_unit : AccessUnit
-no_unit = record { decode_time = -∞; bytes = 0f; first_input_time = 0f }
-
-abbrev pub no_entries : Ring
-no_entries = record { head = 0; count = 0 }
-
 unfoldable pub new_branch : MainBranch
 new_branch =
     record {

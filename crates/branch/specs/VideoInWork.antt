@@ -28,7 +28,8 @@ use Rattle.branch.specs.Queue.{Lies, fits, SameOutside, entries, floats_at, pop_
 use Rattle.branch.specs.InflowInWork.{inflow_of}
 use Rattle.branch.specs.CumulativeIn.{Inflow, settle, arrived_by, run_refused}
 use Rattle.branch.specs.MainBranch.{open_of, grown}
-use Rattle.branch.specs.MainInWork.{unit_of, no_unit}
+use Rattle.branch.specs.MainInWork.{no_unit}
+pub use Rattle.branch.specs.UnitsInWork.{unit_at}
 use Rattle.branch.specs.VideoStep.{VideoChain, VideoFed, close_au, VideoStep, video_step}
 use Rattle.branch.specs.VideoBranch.{VideoRates, Transfer, header_bytes, marks_left, transfer, Leak, Turned, looked, mb_fullness, leak_until, leak_events, Video, Advanced, remove_unit, remove_events, pushed_leak}
 
@@ -38,9 +39,6 @@ mark_of e = record { threshold = get_or e 0 nan; bytes = get_or e 1 nan }
 
 unfoldable pub mark_at : List Float → ℕ → HeaderMark
 mark_at w p = mark_of (floats_at 2 w p)
-
-unfoldable pub unit_at : List Float → ℕ → AccessUnit
-unit_at w p = unit_of (floats_at 3 w p)
 
 abbrev pub rates_of : VideoLayout → VideoRates
 rates_of m = record { rbx = m.rbx; mb_size = m.mb_size; eb_size = m.eb_size }

@@ -6,6 +6,7 @@ pub mod leak;
 pub mod main_branch;
 pub mod queue;
 pub mod sys_branch;
+pub mod units;
 pub mod video_branch;
 
 // A run of bytes delivered over t0 to t1.
@@ -42,3 +43,7 @@ pub struct HeaderMark {
     pub threshold: f64,
     pub bytes: f64,
 }
+
+// A queue had no place left.
+#[derive(Clone, Copy, Debug, PartialEq, Eq)]
+pub struct QueueFull;

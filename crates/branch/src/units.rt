@@ -1,0 +1,168 @@
+// `Units`: the access units of a branch, which are removed whole at their decode times (H.222.0, 2.4.2.3).
+ghost use Rattle.std.specs.Prelude.{◌≡◌, ◌+◌, ◌≤◌, ◌<◌};
+ghost use Rattle.std.specs.Float.Ieee.{ne};
+ghost use Rattle.ieee.specs.Binary64.{0f, -∞};
+ghost use Rattle.events.specs.Slots.{noted_all};
+ghost use Rattle.branch.specs.Queue.{Lies, place_of};
+ghost use Rattle.branch.specs.Units.{close_units, open_units, stamp_of, unit_events};
+ghost use Rattle.branch.specs.UnitsInWork.{unit_at, floats_of_unit, no_unit, no_units, waiting_of, UnitsTo, grown_units, DueOf, removed_units};
+
+use crate::queue::{Place, Ring, entry, pop, push};
+use crate::{AccessUnit, Delivered, QueueFull};
+use events::{EventKind, Slots};
+
+// The units that are pending, in a ring of the work, and the one whose bytes still arrive; and what the removals tell. The open unit's
+// decode time is -infinity where there is none, so that states hold floats alone.
+#[derive(Clone, Copy)]
+pub struct Units {
+    pub pending: Ring,
+    pub open_au: AccessUnit,
+    pub access_units: u64,
+    pub max_delay_seconds: f64,
+}
+
+fn no_unit() -> AccessUnit
+    ensures { result ≡ no_unit }
+{
+    AccessUnit {
+        decode_time: f64::NEG_INFINITY,
+        bytes: 0.0,
+        first_input_time: 0.0,
+    }
+}
+
+fn is_open(u: AccessUnit) -> bool
+    ensures { result ≡ ne u.decode_time -∞ }
+{
+    u.decode_time != f64::NEG_INFINITY
+}
+
+// The pending unit i from the front.
+fn unit_at(q: Ring, w: Place, work: &[f64], i: usize) -> AccessUnit
+    requires lies { Lies 3 work.now w q }
+    requires i_lt_count { i < q.count }
+    ensures { result ≡ unit_at work.now (place_of 3 w q i) }
+{
+    let [decode_time, bytes, first_input_time] = entry::<3>(q, w, work, i);
+    AccessUnit {
+        decode_time,
+        bytes,
+        first_input_time,
+    }
+}
+
+// The unit as an entry of the ring of pending units.
+fn entry_of(u: AccessUnit) -> [f64; 3]
+    ensures { result ≡ floats_of_unit u }
+{
+    [u.decode_time, u.bytes, u.first_input_time]
+}
+
+// What a removal tells of its unit: underflow and delay.
+pub(crate) fn note_removal(
+    arrived: f64,
+    required: f64,
+    u: AccessUnit,
+    slots: &mut Slots,
+    k: usize,
+)
+    requires { k ≤ 64 }
+    ensures { slots.new ≡ noted_all k (unit_events arrived required u) slots.old }
+{
+    let at = u.decode_time;
+    slots.note_kind_if(
+        arrived + 1.0 < required,
+        k,
+        EventKind::Underflow,
+        required - arrived,
+        at,
+    );
+    let delay = at - u.first_input_time;
+    slots.note_kind_if(delay > 1.0 + 1e-6, k, EventKind::Delay, delay, at);
+}
+
+impl Units {
+    // Nothing is pending and no unit is open.
+    pub(crate) fn new() -> Units
+        ensures { result ≡ no_units }
+    {
+        Units {
+            pending: Ring { head: 0, count: 0 },
+            open_au: no_unit(),
+            access_units: 0,
+            max_delay_seconds: 0.0,
+        }
+    }
+
+    // The open unit becomes a pending one. Nothing changes where none is open, nor where the ring is full.
+    pub(crate) fn close(&mut self, w: Place, work: &mut [f64]) -> Result<(), QueueFull>
+        requires { Lies 3 work.old w self.old.pending }
+        ensures { UnitsTo work.old w self.old (close_units w.depth (waiting_of work.old w self.old)) result self.new work.new }
+    {
+        if !is_open(self.open_au) {
+            return Ok(());
+        }
+        let Some(pending) = push(self.pending, w, work, entry_of(self.open_au)) else {
+            return Err(QueueFull);
+        };
+        self.pending = pending;
+        self.open_au = no_unit();
+        Ok(())
+    }
+
+    // A stamp closes the open unit, and opens the next.
+    pub(crate) fn open(
+        &mut self,
+        w: Place,
+        work: &mut [f64],
+        d: Delivered,
+    ) -> Result<(), QueueFull>
+        requires { Lies 3 work.old w self.old.pending }
+        ensures { UnitsTo work.old w self.old (open_units w.depth (stamp_of d) (waiting_of work.old w self.old)) result self.new work.new }
+    {
+        let u = AccessUnit {
+            decode_time: d.decode_time,
+            bytes: 0.0,
+            first_input_time: d.first_input_time,
+        };
+        if is_open(u) {
+            self.close(w, work)?;
+            self.open_au = u;
+        }
+        Ok(())
+    }
+
+    // Bytes of the open unit.
+    pub(crate) fn grow(&mut self, bytes: f64)
+        ensures { self.new ≡ grown_units self.old bytes }
+    {
+        self.open_au.bytes = self.open_au.bytes + bytes;
+    }
+
+    // The first pending unit, where it is due.
+    pub(crate) fn due(self, w: Place, work: &[f64], frontier: f64) -> Option<AccessUnit>
+        requires { Lies 3 work.now w self.pending }
+        ensures { DueOf work.now w self.pending frontier result }
+    {
+        if self.pending.count == 0 {
+            return None;
+        }
+        let unit = unit_at(self.pending, w, work, 0);
+        if !(unit.decode_time <= frontier) {
+            return None;
+        }
+        Some(unit)
+    }
+
+    // The first pending unit, u, goes.
+    pub(crate) fn remove(&mut self, w: Place, u: AccessUnit)
+        requires head_lt_depth { (self.old.pending.head < w.depth) × (0 < self.old.pending.count) }
+        requires count_bound { self.old.access_units < 18446744073709551615 }
+        ensures { self.new ≡ removed_units w.depth self.old u }
+    {
+        self.pending = pop(self.pending, w);
+        self.access_units = self.access_units + 1;
+        self.max_delay_seconds =
+            ieee::max(self.max_delay_seconds, u.decode_time - u.first_input_time);
+    }
+}
