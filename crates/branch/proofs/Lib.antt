@@ -1,5 +1,6 @@
 pub mod Stores
 pub mod Rings
+pub mod UnitQueues
 pub mod Settling
 pub mod Inflows
 pub mod Removals

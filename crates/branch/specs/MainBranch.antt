@@ -8,7 +8,8 @@ use Rattle.events.specs.Event.{Event, overflow, underflow, delay, when}
 use Rattle.branch.specs.declared.Run.{Run}
 use Rattle.branch.specs.declared.AccessUnit.{AccessUnit}
 use Rattle.branch.specs.declared.Delivered.{Delivered}
-pub use Rattle.branch.specs.Units.{OpenAu, none, unit, open_of, stamp_of, grown}
+pub use Rattle.branch.specs.Units.{OpenAu, none, unit}
+unfoldable pub use Rattle.branch.specs.Units.{open_of, stamp_of, grown}
 use Rattle.branch.specs.Units.{unit_events}
 use Rattle.branch.specs.CumulativeIn.{Inflow, settle, arrived_by, final_total, push_run, run_refused}
 

@@ -18,7 +18,7 @@ unit_of e = record { decode_time = get_or e 0 nan; bytes = get_or e 1 nan; first
 abbrev pub floats_of_unit : AccessUnit → List Float
 floats_of_unit u = u.decode_time ∷ (u.bytes ∷ (u.first_input_time ∷ []))
 
-abbrev pub unit_at : List Float → ℕ → AccessUnit
+unfoldable pub unit_at : List Float → ℕ → AccessUnit
 unit_at w p = unit_of (floats_at 3 w p)
 
 unfoldable pub waiting_of : List Float → Place → Units → Waiting

@@ -29,7 +29,7 @@ use Rattle.branch.specs.InflowInWork.{inflow_of}
 use Rattle.branch.specs.CumulativeIn.{Inflow, settle, arrived_by, run_refused}
 use Rattle.branch.specs.MainBranch.{open_of, grown}
 use Rattle.branch.specs.MainInWork.{no_unit}
-pub use Rattle.branch.specs.UnitsInWork.{unit_at}
+unfoldable pub use Rattle.branch.specs.UnitsInWork.{unit_at}
 use Rattle.branch.specs.VideoStep.{VideoChain, VideoFed, close_au, VideoStep, video_step}
 use Rattle.branch.specs.VideoBranch.{VideoRates, Transfer, header_bytes, marks_left, transfer, Leak, Turned, looked, mb_fullness, leak_until, leak_events, Video, Advanced, remove_unit, remove_events, pushed_leak}
 

@@ -38,6 +38,7 @@ fn is_open(u: AccessUnit) -> bool
 }
 
 // The pending unit i from the front.
+#[tactic(auto, unfolding(crate::specs::UnitsInWork::unit_at))]
 fn unit_at(q: Ring, w: Place, work: &[f64], i: usize) -> AccessUnit
     requires lies { Lies 3 work.now w q }
     requires i_lt_count { i < q.count }
@@ -59,13 +60,7 @@ fn entry_of(u: AccessUnit) -> [f64; 3]
 }
 
 // What a removal tells of its unit: underflow and delay.
-pub(crate) fn note_removal(
-    arrived: f64,
-    required: f64,
-    u: AccessUnit,
-    slots: &mut Slots,
-    k: usize,
-)
+pub(crate) fn note_removal(arrived: f64, required: f64, u: AccessUnit, slots: &mut Slots, k: usize)
     requires { k ≤ 64 }
     ensures { slots.new ≡ noted_all k (unit_events arrived required u) slots.old }
 {
@@ -111,12 +106,7 @@ impl Units {
     }
 
     // A stamp closes the open unit, and opens the next.
-    pub(crate) fn open(
-        &mut self,
-        w: Place,
-        work: &mut [f64],
-        d: Delivered,
-    ) -> Result<(), QueueFull>
+    pub(crate) fn open(&mut self, w: Place, work: &mut [f64], d: Delivered) -> Result<(), QueueFull>
         requires { Lies 3 work.old w self.old.pending }
         ensures { UnitsTo work.old w self.old (open_units w.depth (stamp_of d) (waiting_of work.old w self.old)) result self.new work.new }
     {
@@ -162,7 +152,9 @@ impl Units {
     {
         self.pending = pop(self.pending, w);
         self.access_units = self.access_units + 1;
-        self.max_delay_seconds =
-            ieee::max(self.max_delay_seconds, u.decode_time - u.first_input_time);
+        self.max_delay_seconds = ieee::max(
+            self.max_delay_seconds,
+            u.decode_time - u.first_input_time,
+        );
     }
 }

@@ -1,0 +1,153 @@
+-- What becomes of the units of a branch, in terms of the list in their ring.
+use Prim.Native.Nat.{ℕ, ◌+◌, ◌≤◌, ◌<◌}
+use mathlib.Core.Path.{◌≡◌, refl, sym, ap, ◌∙◌}
+use mathlib.Core.Bool.{Bool, true, false, cond}
+use mathlib.Core.List.{List, [], ◌∷◌, ◌++◌}
+use native.Mathlib.Omega.{arith}
+use lib.Dec.{eqb}
+use lib.Ieee.{Float, lt, le, ne, eq}
+use Rattle.ieee.specs.Binary64.{◌⊕◌, ◌⊖◌, -∞, 0f, 1f, 1e-6f}
+use Rattle.events.specs.Event.{underflow, delay, kind_of, figure_of, decode_of}
+use Rattle.events.specs.declared.Slots.{Slots}
+use Rattle.events.specs.Slots.{noted_if, noted_all}
+use Rattle.events.proofs.Noted.{noted_all_append_lem, noted_all_when_lem}
+use Rattle.std.specs.Prelude.{⊤, Option, Some, None, Result, Ok, Err, is_err, IsErr}
+use Rattle.std.proofs.lemmas.Option.{none-some}
+use Rattle.branch.specs.declared.AccessUnit.{AccessUnit}
+use Rattle.branch.specs.declared.Delivered.{Delivered}
+use Rattle.branch.specs.declared.QueueFull.{QueueFull}
+use Rattle.branch.specs.declared.queue.Place.{Place}
+use Rattle.branch.specs.declared.queue.Ring.{Ring}
+use Rattle.branch.specs.declared.units.Units.{Units}
+use Rattle.branch.specs.Queue.{Lies, place_of, floats_at, entries, pop_def, PushedTo}
+use Rattle.branch.specs.Units.{none, unit, open_of, stamp_of, grown, Waiting, Queued, with_open, close_by, close_units, open_units, due_now, unit_events}
+use Rattle.branch.specs.UnitsInWork.{unit_of, floats_of_unit, unit_at, waiting_of, no_unit, UnitsTo, grown_units, DueOf}
+use Rattle.branch.proofs.Rings.{popped, count_entries, no_entries_lem, floats_local, outside_refl, push_room, push_refused, push_adds, push_lies, push_outside}
+
+-- ---- the events of a removal
+
+pub noted_removal : (k : ℕ) (arrived required : Float) (u : AccessUnit) (s s' s'' : Slots) → s' ≡ noted_if (lt (arrived ⊕ 1f) required) (k + 1) (required ⊖ arrived) u.decode_time s
+    → s'' ≡ noted_if (lt (1f ⊕ 1e-6f) (u.decode_time ⊖ u.first_input_time)) (k + 2) (u.decode_time ⊖ u.first_input_time) u.decode_time s' → s'' ≡ noted_all k (unit_events arrived required u) s
+unfolding kind_of figure_of decode_of
+noted_removal k arrived required u s s' s'' e e' =
+    e' ∙ (sym (noted_all_when_lem k _ (delay _ _) s') ∙ (ap (noted_all k _) (e ∙ sym (noted_all_when_lem k _ (underflow _ _) s)) ∙ sym (noted_all_append_lem k _ _ s)))
+
+-- ---- the first unit
+
+module _ (w : List Float) (p : Place) (q : Ring) (f : Float) where
+  module _ (u : AccessUnit) (l : Lies 3 w p q) (h : 0 < q.count) (e : u ≡ unit_at w (place_of 3 p q 0)) where
+    first_is : entries 3 unit_at w p q ≡ u ∷ entries 3 unit_at w p (pop_def p.depth q)
+    first_is = popped 3 unit_at w p q l h ∙ rw e
+
+    tested : due_now (entries 3 unit_at w p q) f ≡ cond (le u.decode_time f) (Some u) None
+    unfolding due_now
+    tested = ap (λ (z : List AccessUnit). due_now z f) first_is
+
+    pub due_first : le u.decode_time f ≡ true → DueOf w p q f (Some u)
+    due_first t = record { test = sym (tested ∙ simp t); some = λ x z. h }
+
+    pub due_later : le u.decode_time f ≡ false → DueOf w p q f None
+    due_later t = record { test = sym (tested ∙ simp t); some = λ x z. absurd (none-some x z) }
+
+  pub due_none : q.count ≡ 0 → DueOf w p q f None
+  unfolding due_now
+  due_none n =
+      let z = no_entries_lem 3 unit_at w p q n in
+      record { test = sym (ap (λ (x : List AccessUnit). due_now x f) z); some = λ x y. absurd (none-some x y) }
+
+-- ---- the open unit
+
+pub open_none : open_of no_unit ≡ none
+unfolding open_of ne eq
+open_none = refl
+
+grown_by : (u : AccessUnit) (x : Float) (c : Bool) → ne u.decode_time -∞ ≡ c → open_of (record { decode_time = u.decode_time; bytes = u.bytes ⊕ x; first_input_time = u.first_input_time }) ≡ grown x (open_of u)
+unfolding open_of grown
+grown_by u x true e = simp e
+grown_by u x false e = simp e
+
+-- the open unit with more bytes
+pub open_grown : (u : AccessUnit) (x : Float) → open_of (record { decode_time = u.decode_time; bytes = u.bytes ⊕ x; first_input_time = u.first_input_time }) ≡ grown x (open_of u)
+open_grown u x = grown_by u x (ne u.decode_time -∞) refl
+
+-- units that are left as they are
+pub units_same : (w : List Float) (p : Place) (u : Units) (x : Queued) → Lies 3 w p u.pending → x ≡ record { full = false; units = waiting_of w p u } → UnitsTo w p u x (Ok tt) u w
+units_same w p u x l e = rw e (record { lies = l; outside = outside_refl _ _ w; full = refl; state = refl; count = refl })
+
+units_refused : (w : List Float) (p : Place) (u : Units) (x : Queued) → Lies 3 w p u.pending → x ≡ record { full = true; units = waiting_of w p u } → UnitsTo w p u x (Err (record {})) u w
+units_refused w p u x l e = rw e (record { lies = l; outside = outside_refl _ _ w; full = refl; state = refl; count = refl })
+
+-- the push of a unit, with its reading by name
+added : {w v : List Float} {p : Place} {q : Ring} {e : List Float} {r : Option Ring} → Lies 3 w p q → PushedTo 3 w p q e r v → (o : Ring) → r ≡ Some o → entries 3 unit_at v p o ≡ entries 3 unit_at w p q ++ (unit_of e ∷ [])
+unfolding unit_at
+added l m o f = push_adds l m o f unit_of (floats_local 3 unit_of)
+
+module _ (w : List Float) (p : Place) (u : Units) where
+  pub close_none : ne u.open_au.decode_time -∞ ≡ false → close_units p.depth (waiting_of w p u) ≡ record { full = false; units = waiting_of w p u }
+  unfolding close_units close_by waiting_of open_of
+  close_none e = simp e
+
+  close_unit : ne u.open_au.decode_time -∞ ≡ true →
+      close_units p.depth (waiting_of w p u)
+      ≡ cond (eqb u.pending.count p.depth) (record { full = true; units = waiting_of w p u })
+      (record { full = false; units = with_open (waiting_of w p u) (entries 3 unit_at w p u.pending ++ (u.open_au ∷ [])) none })
+  unfolding close_units close_by waiting_of open_of
+  close_unit e = simp (e, count_entries 3 unit_at w p u.pending)
+
+module _ (w v : List Float) (p : Place) (u : Units) (l : Lies 3 w p u.pending) (isOpen : ne u.open_au.decode_time -∞ ≡ true) (r : Option Ring) (m : PushedTo 3 w p u.pending (floats_of_unit u.open_au) r v) where
+  pub close_full : r ≡ None → UnitsTo w p u (close_units p.depth (waiting_of w p u)) (Err (record {})) u v
+  close_full f =
+      let k = push_refused l m f in
+      rw k.0 (units_refused w p u _ l (close_unit w p u isOpen ∙ rw k.1))
+
+  pub close_pushed : (q : Ring) → r ≡ Some q →
+      UnitsTo w p u (close_units p.depth (waiting_of w p u)) (Ok tt) (record { pending = q; open_au = no_unit; access_units = u.access_units; max_delay_seconds = u.max_delay_seconds }) v
+  unfolding waiting_of
+  close_pushed q f =
+      let e : close_units p.depth (waiting_of w p u) ≡ record { full = false; units = with_open (waiting_of w p u) (entries 3 unit_at w p u.pending ++ (u.open_au ∷ [])) none } =
+      close_unit w p u isOpen ∙ rw (push_room l m q f) in
+      rw e
+      (record {
+        lies = push_lies l m q f;
+        outside = push_outside l m;
+        full = refl;
+        state = rw (added l m q f, open_none);
+        count = refl;
+      })
+
+-- ---- a stamp
+
+abbrev stamped : Delivered → AccessUnit
+stamped d = record { decode_time = d.decode_time; bytes = 0f; first_input_time = d.first_input_time }
+
+module _ (d : Delivered) (depth : ℕ) (x : Waiting) where
+  pub stamp_none : ne d.decode_time -∞ ≡ false → open_units depth (stamp_of d) x ≡ record { full = false; units = x }
+  unfolding open_units stamp_of open_of
+  stamp_none e = simp e
+
+  stamp_full : ne d.decode_time -∞ ≡ true → (close_units depth x).full ≡ true → open_units depth (stamp_of d) x ≡ close_units depth x
+  unfolding open_units stamp_of open_of
+  stamp_full e f = simp (e, f)
+
+  stamp_next : ne d.decode_time -∞ ≡ true → (close_units depth x).full ≡ false →
+      open_units depth (stamp_of d) x ≡ record { full = false; units = with_open (close_units depth x).units (close_units depth x).units.pending (unit (stamped d)) }
+  unfolding open_units stamp_of open_of
+  stamp_next e f = simp (e, f)
+
+module _ (w v : List Float) (p : Place) (u o : Units) (d : Delivered) (isStamp : ne d.decode_time -∞ ≡ true) (r : Result ⊤ QueueFull) (m : UnitsTo w p u (close_units p.depth (waiting_of w p u)) r o v) where
+  pub open_refused : (e : QueueFull) (r' : Result ⊤ QueueFull) → r ≡ Err e → IsErr r' → UnitsTo w p u (open_units p.depth (stamp_of d) (waiting_of w p u)) r' o v
+  open_refused e r' f g =
+      let full : (close_units p.depth (waiting_of w p u)).full ≡ true = sym m.full ∙ ap is_err f in
+      rw (stamp_full d p.depth (waiting_of w p u) isStamp full) (record { lies = m.lies; outside = m.outside; full = g ∙ sym full; state = m.state; count = m.count })
+
+  pub open_next : r ≡ Ok tt → UnitsTo w p u (open_units p.depth (stamp_of d) (waiting_of w p u)) (Ok tt) (record { pending = o.pending; open_au = stamped d; access_units = o.access_units; max_delay_seconds = o.max_delay_seconds }) v
+  unfolding waiting_of open_of
+  open_next f =
+      rw (stamp_next d p.depth (waiting_of w p u) isStamp (sym m.full ∙ ap is_err f))
+      (record {
+        lies = m.lies;
+        outside = m.outside;
+        full = refl;
+        state = rw (← m.state) (simp isStamp);
+        count = m.count;
+      })
