@@ -1,28 +1,28 @@
 -- The removals of `advance`, one after the other, from what its parts give.
 use Prim.Native.Nat.{ℕ, ◌+◌, ◌≤◌, ◌<◌}
 use mathlib.Core.Path.{◌≡◌, refl, sym, ap, ◌∙◌}
-use mathlib.Core.Bool.{Bool, true, false, cond}
+use mathlib.Core.Bool.{Bool, true, false}
 use mathlib.Core.List.{List, [], ◌∷◌, ◌++◌}
 use native.Mathlib.Omega.{arith}
-use lib.Ieee.{Float, lt, le}
-use Rattle.ieee.specs.Binary64.{◌⊕◌, ◌⊖◌, 1f, 1e-6f}
-use Rattle.ieee.specs.MaxMin.{max_of, min_of}
-use Rattle.events.specs.Event.{underflow, delay, kind_of, figure_of, decode_of}
+use lib.Ieee.{Float, le}
+use Rattle.ieee.specs.Binary64.{◌⊕◌}
+use Rattle.ieee.specs.MaxMin.{min_of}
 use Rattle.events.specs.declared.Slots.{Slots}
-use Rattle.events.specs.Slots.{noted_if, noted_all}
-use Rattle.events.proofs.Noted.{noted_all_append_lem, noted_all_when_lem}
+use Rattle.events.specs.Slots.{noted_all}
+use Rattle.events.proofs.Noted.{noted_all_append_lem}
 use Rattle.branch.specs.declared.AccessUnit.{AccessUnit}
-use Rattle.branch.specs.declared.queue.Place.{Place}
-use Rattle.branch.specs.declared.queue.Ring.{Ring}
 use Rattle.branch.specs.declared.leak.VideoLayout.{VideoLayout}
+use Rattle.branch.specs.declared.units.Units.{Units}
 use Rattle.branch.specs.declared.video_branch.VideoBranch.{VideoBranch}
 use Rattle.branch.specs.declared.leak.Leak.{Leak as LeakState}
 use Rattle.std.specs.Prelude.{Option, Some, None}
 use Rattle.std.proofs.lemmas.Option.{none-some, cond_some}
-use Rattle.branch.specs.Queue.{Lies, place_of, entries, pop_def}
+use Rattle.branch.specs.Queue.{place_of, entries, pop_def}
 use Rattle.branch.specs.VideoBranch.{VideoRates, leak_until, leak_events, Video, Advanced, with_removed, remove_unit, remove_events, advance_from, advance}
-use Rattle.branch.specs.VideoInWork.{unit_at, rates_of, flow_of, leak_of, LeaksTo, video_of, VideoLies, due_now, DueOf, until, removal_events, RemovedBy, AdvancedTo}
-use Rattle.branch.proofs.Rings.{popped, lies_popped, count_popped, no_entries_lem}
+use Rattle.branch.specs.VideoInWork.{rates_of, flow_of, leak_of, LeaksTo, video_of, VideoLies, until, RemovedBy, AdvancedTo}
+use Rattle.branch.specs.Units.{due_now, unit_events}
+use Rattle.branch.specs.UnitsInWork.{unit_at, DueOf, removed_units}
+use Rattle.branch.proofs.Rings.{popped, lies_popped, count_popped}
 
 -- the leak up to a time, in the branch
 abbrev pub leaked : VideoRates → Float → Video → Video
@@ -54,40 +54,10 @@ pending_is : (v : Video) (u : AccessUnit) (us : List AccessUnit) → (remove_uni
 unfolding remove_unit
 pending_is v u us = refl
 
--- ---- the first unit
-
-module _ (w : List Float) (p : Place) (q : Ring) (f : Float) where
-  module _ (u : AccessUnit) (l : Lies 3 w p q) (h : 0 < q.count) (e : u ≡ unit_at w (place_of 3 p q 0)) where
-    first_is : entries 3 unit_at w p q ≡ u ∷ entries 3 unit_at w p (pop_def p.depth q)
-    first_is = popped 3 unit_at w p q l h ∙ rw e
-
-    tested : due_now (entries 3 unit_at w p q) f ≡ cond (le u.decode_time f) (Some u) None
-    unfolding due_now
-    tested = ap (λ (z : List AccessUnit). due_now z f) first_is
-
-    pub due_first : le u.decode_time f ≡ true → DueOf w p q f (Some u)
-    due_first t = record { test = sym (tested ∙ simp t); some = λ x z. h }
-
-    pub due_later : le u.decode_time f ≡ false → DueOf w p q f None
-    due_later t = record { test = sym (tested ∙ simp t); some = λ x z. absurd (none-some x z) }
-
-  pub due_none : q.count ≡ 0 → DueOf w p q f None
-  unfolding due_now
-  due_none n =
-      let z = no_entries_lem 3 unit_at w p q n in
-      record { test = sym (ap (λ (x : List AccessUnit). due_now x f) z); some = λ x y. absurd (none-some x y) }
-
 -- ---- the removal of a unit
 
-pub noted_removal : (k : ℕ) (eb_in required : Float) (u : AccessUnit) (s s' s'' : Slots) → s' ≡ noted_if (lt (eb_in ⊕ 1f) required) (k + 1) (required ⊖ eb_in) u.decode_time s
-    → s'' ≡ noted_if (lt (1f ⊕ 1e-6f) (u.decode_time ⊖ u.first_input_time)) (k + 2) (u.decode_time ⊖ u.first_input_time) u.decode_time s' → s'' ≡ noted_all k (removal_events eb_in required u) s
-unfolding removal_events kind_of figure_of decode_of
-noted_removal k eb_in required u s s' s'' e e' =
-    e' ∙ (sym (noted_all_when_lem k _ (delay _ _) s') ∙ (ap (noted_all k _) (e ∙ sym (noted_all_when_lem k _ (underflow _ _) s)) ∙ sym (noted_all_append_lem k _ _ s)))
-
-pub removed_by : (m : VideoLayout) (b : VideoBranch) (u : AccessUnit) (k : ℕ) (before after : Slots) (x y : Float) (q : Ring) → x ≡ min_of (b.eb_required ⊕ u.bytes) b.leak.flow.eb_in
-    → y ≡ max_of b.max_delay_seconds (u.decode_time ⊖ u.first_input_time) → q ≡ pop_def m.units.depth b.pending
-    → after ≡ noted_all k (removal_events b.leak.flow.eb_in (b.eb_required ⊕ u.bytes) u) before
+pub removed_by : (m : VideoLayout) (b : VideoBranch) (u : AccessUnit) (k : ℕ) (before after : Slots) (x : Float) (q : Units) → x ≡ min_of (b.eb_required ⊕ u.bytes) b.leak.flow.eb_in
+    → q ≡ removed_units m.units.depth b.units u → after ≡ noted_all k (unit_events b.leak.flow.eb_in (b.eb_required ⊕ u.bytes) u) before
     → RemovedBy m b u k before after
     (record {
       leak = record {
@@ -104,22 +74,17 @@ pub removed_by : (m : VideoLayout) (b : VideoBranch) (u : AccessUnit) (k : ℕ) 
         mb_peak = b.leak.mb_peak;
         proc_time = b.leak.proc_time;
       };
-      pending = q;
-      open_au = b.open_au;
+      units = q;
       queued = b.queued;
       eb_required = b.eb_required ⊕ u.bytes;
-      access_units = b.access_units + 1;
-      max_delay_seconds = y;
     })
-unfolding video_of leak_of flow_of remove_unit with_removed remove_events removal_events
-removed_by m b u k before after x y q e f g h =
+unfolding video_of leak_of flow_of remove_unit with_removed remove_events
+removed_by m b u k before after x q e f g =
     record {
       lies = λ w l. record { runs = l.runs; marks = l.marks };
-      pending = g;
-      open_au = refl;
-      units = refl;
-      state = λ w. rw (e, f, g);
-      events = λ w. h;
+      units = f;
+      state = λ w. rw (e, f);
+      events = λ w. g;
     }
 
 -- ---- one turn of the loop
@@ -127,27 +92,26 @@ removed_by m b u k before after x y q e f g h =
 -- the branch r, with the slots s', comes to what b comes to from the slots s
 pub record Advancing (w : List Float) (m : VideoLayout) (f : Float) (k : ℕ) (b : VideoBranch) (s : Slots) (r : VideoBranch) (s' : Slots) : Type 0 where
   pub lies : VideoLies w m r
-  pub open_au : r.open_au ≡ b.open_au
-  pub bound : r.access_units + r.pending.count ≤ 18446744073709551615
+  pub open_au : r.units.open_au ≡ b.units.open_au
+  pub bound : r.units.access_units + r.units.pending.count ≤ 18446744073709551615
   pub state : (advance (rates_of m) f (video_of w m r)).branch ≡ (advance (rates_of m) f (video_of w m b)).branch
   pub slots : noted_all k (advance (rates_of m) f (video_of w m r)).events s' ≡ noted_all k (advance (rates_of m) f (video_of w m b)).events s
 
-pub advance_starts : (w : List Float) (m : VideoLayout) (f : Float) (k : ℕ) (b : VideoBranch) (s : Slots) → VideoLies w m b → b.access_units + b.pending.count ≤ 18446744073709551615
+pub advance_starts : (w : List Float) (m : VideoLayout) (f : Float) (k : ℕ) (b : VideoBranch) (s : Slots) → VideoLies w m b → b.units.access_units + b.units.pending.count ≤ 18446744073709551615
     → Advancing w m f k b s b s
 advance_starts w m f k b s v h = record { lies = v; open_au = refl; bound = h; state = refl; slots = refl }
 
 module _ (w : List Float) (m : VideoLayout) (f : Float) (k : ℕ) (b : VideoBranch) (s s' : Slots) (d : Option AccessUnit) (to : Float) (l : LeakState) (v : VideoLies w m b)
-    (e : DueOf w m.units b.pending f d) (t : to ≡ until d f) (g : LeaksTo w m to k s s' (leak_of w m b.leak) l) where
+    (e : DueOf w m.units b.units.pending f d) (t : to ≡ until d f) (g : LeaksTo w m to k s s' (leak_of w m b.leak) l) where
   abbrev R : VideoRates
   R = rates_of m
 
   abbrev us : List AccessUnit
-  us = entries 3 unit_at w m.units b.pending
+  us = entries 3 unit_at w m.units b.units.pending
 
   -- the branch behind the leak
   abbrev next : VideoBranch
-  next =
-      record { leak = l; pending = b.pending; open_au = b.open_au; queued = b.queued; eb_required = b.eb_required; access_units = b.access_units; max_delay_seconds = b.max_delay_seconds }
+  next = record { leak = l; units = b.units; queued = b.queued; eb_required = b.eb_required }
 
   at : video_of w m next ≡ leaked R to (video_of w m b)
   unfolding video_of
@@ -165,7 +129,7 @@ module _ (w : List Float) (m : VideoLayout) (f : Float) (k : ℕ) (b : VideoBran
     unfolding advance video_of
     whole = advance_none R f us (video_of w m b) (sym e.test ∙ h)
 
-    pub advance_ends : {b' : VideoBranch} {s0 : Slots} → Advancing w m f k b' s0 b s → AdvancedTo w m k b'.open_au s0 (advance R f (video_of w m b')) next s'
+    pub advance_ends : {b' : VideoBranch} {s0 : Slots} → Advancing w m f k b' s0 b s → AdvancedTo w m k b'.units.open_au s0 (advance R f (video_of w m b')) next s'
     advance_ends inv =
         record {
           lies = lies;
@@ -179,19 +143,19 @@ module _ (w : List Float) (m : VideoLayout) (f : Float) (k : ℕ) (b : VideoBran
   -- the first unit is due
   module _ (u : AccessUnit) (h : d ≡ Some u) (r : VideoBranch) (s'' : Slots) (x : RemovedBy m next u k s' s'' r) where
     abbrev rest : List AccessUnit
-    rest = entries 3 unit_at w m.units (pop_def m.units.depth b.pending)
+    rest = entries 3 unit_at w m.units (pop_def m.units.depth b.units.pending)
 
-    some : 0 < b.pending.count
+    some : 0 < b.units.pending.count
     some = e.some u h
 
     due : to ≡ u.decode_time
     due = t ∙ rw h
 
     abbrev head : AccessUnit
-    head = unit_at w (place_of 3 m.units b.pending 0)
+    head = unit_at w (place_of 3 m.units b.units.pending 0)
 
     by_head : us ≡ head ∷ rest
-    by_head = popped 3 unit_at w m.units b.pending v.pending some
+    by_head = popped 3 unit_at w m.units b.units.pending v.pending some
 
     found : (le head.decode_time f ≡ true) × (head ≡ u)
     unfolding due_now
@@ -201,7 +165,7 @@ module _ (w : List Float) (m : VideoLayout) (f : Float) (k : ℕ) (b : VideoBran
     first = by_head ∙ rw found.1
 
     test : le u.decode_time f ≡ true
-    test = rw found.1 at found.0
+    test = sym (ap (λ (z : AccessUnit). le z.decode_time f) found.1) ∙ found.0
 
     -- what stands behind the removal
     abbrev behind : Video
@@ -231,16 +195,16 @@ module _ (w : List Float) (m : VideoLayout) (f : Float) (k : ℕ) (b : VideoBran
         ∙ (ap (λ (z : Video). noted_all k (remove_events z u) s') (at ∙ rw due)
         ∙ (ap (noted_all k (remove_events (leaked R u.decode_time (video_of w m b)) u)) leak_slots ∙ sym (noted_all_append_lem k _ _ s)))
 
-    pub advance_less : r.pending.count < b.pending.count
-    advance_less = rw x.pending (omega (arith, count_popped m.units.depth b.pending, some))
+    pub advance_less : r.units.pending.count < b.units.pending.count
+    advance_less = rw x.units (omega (arith, count_popped m.units.depth b.units.pending, some))
 
     pub advance_more : {b' : VideoBranch} {s0 : Slots} → Advancing w m f k b' s0 b s → Advancing w m f k b' s0 r s''
     advance_more inv =
-        let n : (pop_def m.units.depth b.pending).count + 1 ≡ b.pending.count = omega (arith, count_popped m.units.depth b.pending, some) in
+        let n : (pop_def m.units.depth b.units.pending).count + 1 ≡ b.units.pending.count = omega (arith, count_popped m.units.depth b.units.pending, some) in
         record {
-          lies = record { leak = x.lies w lies.leak; pending = rw x.pending (lies_popped w m.units b.pending v.pending some) };
-          open_au = x.open_au ∙ inv.open_au;
-          bound = rw (x.pending, x.units) (omega (arith, inv.bound));
+          lies = record { leak = x.lies w lies.leak; pending = rw x.units (lies_popped w m.units b.units.pending v.pending some) };
+          open_au = ap (λ (z : Units). z.open_au) x.units ∙ inv.open_au;
+          bound = rw x.units (omega (arith, inv.bound));
           state = ap (λ (z : Advanced). z.branch) onward ∙ (sym (ap (λ (z : Advanced). z.branch) whole') ∙ inv.state);
           slots =
               ap (λ (z : Advanced). noted_all k z.events s'') onward

@@ -1,7 +1,7 @@
 -- One step of a video chain, from what its parts give, and the branch before the first packet.
 use Prim.Native.Nat.{ℕ, ◌+◌, ◌*◌, ◌≤◌, ◌<◌}
 use mathlib.Core.Path.{◌≡◌, refl, sym, ap, ◌∙◌}
-use mathlib.Core.Bool.{Bool, true, false, cond, true≢false}
+use mathlib.Core.Bool.{Bool, true, false, true≢false}
 use mathlib.Core.List.{List, []}
 use native.Mathlib.Omega.{arith}
 use lib.ListN.{length}
@@ -18,13 +18,14 @@ use Rattle.branch.specs.declared.Delivered.{Delivered}
 use Rattle.branch.specs.declared.video_branch.VideoModel.{VideoModel}
 use Rattle.branch.specs.declared.leak.VideoLayout.{VideoLayout}
 use Rattle.branch.specs.declared.video_branch.VideoBranch.{VideoBranch}
-use Rattle.branch.specs.declared.video_branch.Stepped.{Stepped}
+use Rattle.branch.specs.declared.QueueFull.{QueueFull}
 use Rattle.branch.specs.Queue.{entries, entries_from}
-use Rattle.branch.specs.MainBranch.{OpenAu, none, unit, open_of}
-use Rattle.branch.specs.VideoBranch.{VideoRates, Video, Advanced, advance, drain_time, finish_video}
-use Rattle.branch.specs.VideoStep.{VideoChain, new_video, fed, with_pending, close_by, close_au, deliver, packet_step, end_step, video_step}
-use Rattle.branch.specs.VideoInWork.{rates_of, leak_of, flow_of, video_of, VideoLies, chain_of, Apart, VideoFedTo, AdvancedTo, layout_of, ready, SteppedTo, BusyNoted, new_branch}
-use Rattle.branch.proofs.Rings.{both, ring_fits, lying_fits, outside_then}
+use Rattle.std.specs.Prelude.{Result, Ok, is_err, ⊤}
+use Rattle.branch.specs.Units.{OpenAu, none, unit, open_of}
+use Rattle.branch.specs.VideoBranch.{VideoRates, Video, advance, drain_time, finish_video}
+use Rattle.branch.specs.VideoStep.{VideoChain, new_video, with_pending, close_by, close_au, deliver, packet_step, end_step, video_step}
+use Rattle.branch.specs.VideoInWork.{rates_of, leak_of, flow_of, video_of, VideoLies, chain_of, Apart, VideoFedTo, AdvancedTo, layout_of, ready, SteppedTo, new_branch}
+use Rattle.branch.proofs.Rings.{both, ring_fits, lying_fits}
 
 -- ---- the branch before the first packet
 
@@ -42,13 +43,13 @@ new_lies w p d h =
 
 -- the chain's figures are fields of the branch
 pub figures_of_lem : (w : List Float) (m : VideoLayout) (b : VideoBranch)
-    → (((video_of w m b).leak.mb_peak ≡ b.leak.mb_peak) × ((video_of w m b).leak.flow.eb_peak ≡ b.leak.flow.eb_peak)) × (((video_of w m b).units ≡ b.access_units) × ((video_of w m b).max_delay ≡ b.max_delay_seconds))
+    → (((video_of w m b).leak.mb_peak ≡ b.leak.mb_peak) × ((video_of w m b).leak.flow.eb_peak ≡ b.leak.flow.eb_peak)) × (((video_of w m b).units ≡ b.units.access_units) × ((video_of w m b).max_delay ≡ b.units.max_delay_seconds))
 unfolding video_of leak_of flow_of
 figures_of_lem w m b = ((refl, refl), (refl, refl))
 
 -- ---- the parts of a step
 
-module _ (w v : List Float) (m : VideoLayout) (b : VideoBranch) (d : Delivered) (t : Float) (k : ℕ) (s : Slots) (r : Stepped) where
+module _ (w v : List Float) (m : VideoLayout) (b : VideoBranch) (k : ℕ) (s : Slots) (r : Result ⊤ QueueFull) (c : VideoBranch) where
   abbrev R : VideoRates
   R = rates_of m
 
@@ -58,30 +59,24 @@ module _ (w v : List Float) (m : VideoLayout) (b : VideoBranch) (d : Delivered) 
   abbrev C : VideoChain
   C = chain_of w m b
 
-  -- the open unit finds no place
-  refused_by : (end : Bool) → VideoFedTo w m b (cond end (close_au depth C) (fed C)) r v → r.full ≡ true → SteppedTo w m k s (video_step R depth d end t C) r v s
-  unfolding video_step end_step noted_all
-  refused_by true h f =
+  -- at the end the open unit finds no place; r' is the error that is handed on
+  pub end_refused : (r' : Result ⊤ QueueFull) → VideoFedTo w m b (close_au depth C) r c v → is_err r ≡ true → is_err r' ≡ true → SteppedTo w m k s (end_step R (close_au depth C)) r' c v s
+  unfolding end_step noted_all
+  end_refused r' h f f' =
       let e : (close_au depth C).full ≡ true = sym h.full ∙ f in
-      simp e (record { lies = h.lies; outside = h.outside; full = f; state = h.state; slots = refl })
-  refused_by false h f = absurd (true≢false (sym f ∙ h.full))
-
-  pub step_refused : (end : Bool) → VideoFedTo w m b (cond end (close_au depth C) (fed C)) r v → r.full ≡ true → SteppedTo w m k s (video_step R depth d end t C) r v s
-  step_refused end h f = refused_by end h f
-
-  abbrev c : VideoBranch
-  c = r.branch
+      simp e (record { lies = h.lies; outside = h.outside; full = f'; state = h.state; slots = refl })
 
   -- the end
-  module _ (h : VideoFedTo w m b (close_au depth C) r v) (f : r.full ≡ false) (a : VideoBranch) (x : Stepped) (s' s'' : Slots) (until : Float)
-      (e : until ≡ max_of c.leak.proc_time 0f ⊕ c.queued ⊘ m.rbx ⊕ 2f) (g : AdvancedTo v m k c.open_au s (advance R until (video_of v m c)) a s') (n : BusyNoted a k s' x s'') where
+  module _ (h : VideoFedTo w m b (close_au depth C) r c v) (f : is_err r ≡ false) (a : VideoBranch) (s' s'' : Slots) (until : Float)
+      (e : until ≡ max_of c.leak.proc_time 0f ⊕ c.queued ⊘ m.rbx ⊕ 2f) (g : AdvancedTo v m k c.units.open_au s (advance R until (video_of v m c)) a s')
+      (n : s'' ≡ noted_all k (when (lt (1f ⊕ 1e-6f) a.leak.longest_busy) (mb_busy a.leak.longest_busy)) s') where
     drained : until ≡ drain_time R (video_of v m c)
     unfolding drain_time video_of leak_of
     drained = e
 
-    end_is : video_step R depth d true t C
-        ≡ record { full = false; chain = record { branch = (finish_video R (video_of v m c)).branch; open_au = open_of c.open_au }; events = (finish_video R (video_of v m c)).events }
-    unfolding video_step end_step chain_of
+    end_is : end_step R (close_au depth C)
+        ≡ record { full = false; chain = record { branch = (finish_video R (video_of v m c)).branch; open_au = open_of c.units.open_au }; events = (finish_video R (video_of v m c)).events }
+    unfolding end_step chain_of
     end_is =
         let i : (close_au depth C).full ≡ false = sym h.full ∙ f in
         let j : (close_au depth C).chain ≡ chain_of v m c = sym h.state in
@@ -98,49 +93,28 @@ module _ (w v : List Float) (m : VideoLayout) (b : VideoBranch) (d : Delivered) 
     noted : s'' ≡ noted_all k (finish_video R (video_of v m c)).events s
     unfolding finish_video
     noted =
-        n.slots
+        n
         ∙ (ap (λ (z : Float). noted_all k (when (lt (1f ⊕ 1e-6f) z) (mb_busy z)) s') longest
         ∙ (ap (noted_all k _) (g.slots ∙ ap (λ (z : Float). noted_all k (advance R z (video_of v m c)).events s) drained) ∙ sym (noted_all_append_lem k _ _ s)))
 
-    ended : SteppedTo w m k s (video_step R depth d true t C) (record { full = false; branch = a }) v s''
+    pub end_reached : SteppedTo w m k s (end_step R (close_au depth C)) (Ok tt) a v s''
     unfolding chain_of
-    ended = rw end_is (record { lies = g.lies; outside = h.outside; full = refl; state = rw (reached, g.open_au); slots = noted })
+    end_reached = rw end_is (record { lies = g.lies; outside = h.outside; full = refl; state = rw (reached, g.open_au); slots = noted })
 
-    pub step_ends : SteppedTo w m k s (video_step R depth d true t C) x v s''
-    step_ends = rw n.result ended
-
-  -- a packet
-  module _ (h : VideoFedTo w m b (fed C) r v) (a : VideoBranch) (x : Stepped) (u : List Float) (s' : Slots) (until : Float) (e : until ≡ t)
-      (g : AdvancedTo v m k c.open_au s (advance R until (video_of v m c)) a s') (y : VideoFedTo v m a (deliver depth d (chain_of v m a)) x u) where
-    same : video_of v m c ≡ C.branch
-    unfolding chain_of
-    same = ap (λ (z : VideoChain). z.branch) h.state
-
-    same_open : open_of c.open_au ≡ C.open_au
-    unfolding chain_of
-    same_open = ap (λ (z : VideoChain). z.open_au) h.state
-
-    came : advance R until (video_of v m c) ≡ advance R t C.branch
-    came = rw (e, same)
-
-    arrived : chain_of v m a ≡ record { branch = (advance R t C.branch).branch; open_au = C.open_au }
-    unfolding chain_of
-    arrived = rw (g.state, came, g.open_au, same_open)
-
-    packet_is : video_step R depth d false t C ≡ record { full = (deliver depth d (chain_of v m a)).full; chain = (deliver depth d (chain_of v m a)).chain; events = (advance R t C.branch).events }
-    unfolding video_step packet_step
-    packet_is = sym (rw arrived)
-
-    pub step_packet : SteppedTo w m k s (video_step R depth d false t C) x u s'
-    step_packet =
-        rw packet_is
-        (record {
-          lies = y.lies;
-          outside = outside_then h.outside y.outside;
-          full = y.full;
-          state = y.state;
-          slots = g.slots ∙ ap (λ (z : Advanced). noted_all k z.events s) came;
-        })
+-- a packet
+module _ (w u : List Float) (m : VideoLayout) (b a : VideoBranch) (d : Delivered) (t : Float) (k : ℕ) (s s' : Slots) (r : Result ⊤ QueueFull) (c : VideoBranch) where
+  pub packet_delivered : AdvancedTo w m k b.units.open_au s (advance (rates_of m) t (video_of w m b)) a s' → VideoFedTo w m a (deliver m.runs.depth d (chain_of w m a)) r c u
+      → SteppedTo w m k s (video_step (rates_of m) m.runs.depth d false t (chain_of w m b)) r c u s'
+  unfolding video_step packet_step chain_of
+  packet_delivered g y =
+      let arrived : record { branch = video_of w m a; open_au = open_of a.units.open_au } ≡ record { branch = (advance (rates_of m) t (video_of w m b)).branch; open_au = open_of b.units.open_au } = rw (g.state, g.open_au) in
+      record {
+        lies = y.lies;
+        outside = y.outside;
+        full = y.full ∙ ap (λ (z : VideoChain). (deliver m.runs.depth d z).full) arrived;
+        state = y.state ∙ ap (λ (z : VideoChain). (deliver m.runs.depth d z).chain) arrived;
+        slots = g.slots;
+      }
 
 -- ---- a caller that closes first, and then steps to the end
 
@@ -170,7 +144,7 @@ module _ (r : VideoRates) (depth : ℕ) (d : Delivered) (t : Float) (c : VideoCh
 pub record Ready (w : List Float) (p : VideoModel) (b : VideoBranch) (k : ℕ) : Type 0 where
   pub room : p.base + 8 * p.depth ≤ length w
   pub lies : VideoLies w (layout_of p) b
-  pub units : b.access_units < 9223372036854775808
+  pub units : b.units.access_units < 9223372036854775808
   pub slot : k < 64
 
 pub ready_is : (w : List Float) (p : VideoModel) (b : VideoBranch) (k : ℕ) → ready (length w) p b k ≡ true → Ready w p b k
@@ -187,7 +161,7 @@ ready_is w p b k h =
       room = room;
       lies = record {
         leak = record { runs = ring_fits 3 w m.runs b.leak.mb_in.runs (omega arith) q5.1; marks = ring_fits 2 w m.marks b.leak.flow.marks (omega arith) q3.1 };
-        pending = ring_fits 3 w m.units b.pending (omega arith) q4.1;
+        pending = ring_fits 3 w m.units b.units.pending (omega arith) q4.1;
       };
       units = ltb-true _ _ q2.1;
       slot = ltb-true _ _ q1.1;
@@ -207,6 +181,6 @@ lies_ready w p b k r =
       lying_fits l.runs,
       lying_fits q,
       lying_fits l.marks,
-      lt-ltb b.access_units 9223372036854775808 r.units,
+      lt-ltb b.units.access_units 9223372036854775808 r.units,
       lt-ltb k 64 r.slot,
     )

@@ -1,12 +1,12 @@
 -- The video branch with its queues as rings in the work: its state as lists and floats, that the rings lie in the work, and what the
 -- functions over it give.
-use Rattle.std.specs.Prelude.{ℕ, ◌+◌, ◌*◌, ◌≤◌, ◌<◌, ◌≡◌, Bool, true, false, not, cond, ◌&&◌, Option, Some, None, List, [], ◌∷◌, ◌++◌, get_or, length, ltb, leb, Float}
+use Rattle.std.specs.Prelude.{ℕ, ◌+◌, ◌*◌, ◌≤◌, ◌≡◌, Bool, true, false, not, cond, ◌&&◌, Option, Some, None, List, [], ◌∷◌, ◌++◌, get_or, length, ltb, leb, Float, ⊤, Result, Ok, is_err}
 use Rattle.std.specs.Float.{nan}
 use Rattle.std.specs.Option.{is_some}
-use Rattle.std.specs.Float.Ieee.{lt, le, eq}
-use Rattle.ieee.specs.Binary64.{◌⊕◌, ◌⊖◌, 0f, 1f, 1e-6f, -∞}
+use Rattle.std.specs.Float.Ieee.{lt, eq}
+use Rattle.ieee.specs.Binary64.{◌⊕◌, ◌⊖◌, 0f, 1f, -∞}
 use Rattle.ieee.specs.MaxMin.{max_of}
-use Rattle.events.specs.Event.{Event, overflow, underflow, delay, mb_busy, when}
+use Rattle.events.specs.Event.{overflow, when}
 use Rattle.events.specs.declared.Slots.{Slots}
 use Rattle.events.specs.Slots.{noted_all}
 use Rattle.branch.specs.declared.Run.{Run}
@@ -23,14 +23,13 @@ use Rattle.branch.specs.declared.leak.Leak.{Leak as LeakState}
 use Rattle.branch.specs.declared.leak.Looked.{Looked}
 use Rattle.branch.specs.declared.leak.Turned.{Turned as TurnState}
 use Rattle.branch.specs.declared.video_branch.VideoBranch.{VideoBranch}
-use Rattle.branch.specs.declared.video_branch.Stepped.{Stepped}
+use Rattle.branch.specs.declared.QueueFull.{QueueFull}
 use Rattle.branch.specs.Queue.{Lies, fits, SameOutside, entries, floats_at, pop_def}
 use Rattle.branch.specs.InflowInWork.{inflow_of}
 use Rattle.branch.specs.CumulativeIn.{Inflow, settle, arrived_by, run_refused}
-use Rattle.branch.specs.MainBranch.{open_of, grown}
-use Rattle.branch.specs.MainInWork.{no_unit}
-unfoldable pub use Rattle.branch.specs.UnitsInWork.{unit_at}
-use Rattle.branch.specs.VideoStep.{VideoChain, VideoFed, close_au, VideoStep, video_step}
+use Rattle.branch.specs.Units.{open_of, grown}
+use Rattle.branch.specs.UnitsInWork.{unit_at, no_entries, no_units, removed_units}
+use Rattle.branch.specs.VideoStep.{VideoChain, VideoFed, close_au, VideoStep, video_step, end_step}
 use Rattle.branch.specs.VideoBranch.{VideoRates, Transfer, header_bytes, marks_left, transfer, Leak, Turned, looked, mb_fullness, leak_until, leak_events, Video, Advanced, remove_unit, remove_events, pushed_leak}
 
 -- an entry's floats are the threshold and the bytes
@@ -142,48 +141,32 @@ video_of w m b =
       leak = leak_of w m b.leak;
       queued = b.queued;
       eb_required = b.eb_required;
-      pending = entries 3 unit_at w m.units b.pending;
-      max_delay = b.max_delay_seconds;
-      units = b.access_units;
+      pending = entries 3 unit_at w m.units b.units.pending;
+      max_delay = b.units.max_delay_seconds;
+      units = b.units.access_units;
     }
 
 -- the three rings lie in the work
 pub record VideoLies (w : List Float) (m : VideoLayout) (b : VideoBranch) : Type 0 where
   pub leak : LeakLies w m b.leak
-  pub pending : Lies 3 w m.units b.pending
-
--- the first unit, where it is due
-unfoldable pub due_now : List AccessUnit → Float → Option AccessUnit
-due_now [] frontier = None
-due_now (u ∷ us) frontier = cond (le u.decode_time frontier) (Some u) None
-
-pub record DueOf (w : List Float) (p : Place) (q : Ring) (frontier : Float) (r : Option AccessUnit) : Type 0 where
-  pub test : r ≡ due_now (entries 3 unit_at w p q) frontier
-  pub some : (u : AccessUnit) → r ≡ Some u → 0 < q.count
+  pub pending : Lies 3 w m.units b.units.pending
 
 -- how far the leak goes on before that
 abbrev pub until : Option AccessUnit → Float → Float
 until (Some u) frontier = u.decode_time
 until None frontier = frontier
 
-unfoldable pub removal_events : Float → Float → AccessUnit → List Event
-removal_events eb_in required u =
-    when (lt (eb_in ⊕ 1f) required) (underflow u.decode_time (required ⊖ eb_in))
-    ++ when (lt (1f ⊕ 1e-6f) (u.decode_time ⊖ u.first_input_time)) (delay u.decode_time (u.decode_time ⊖ u.first_input_time))
-
 -- the removal of the first pending unit
 pub record RemovedBy (m : VideoLayout) (b : VideoBranch) (u : AccessUnit) (k : ℕ) (before after : Slots) (r : VideoBranch) : Type 0 where
   pub lies : (w : List Float) → LeakLies w m b.leak → LeakLies w m r.leak
-  pub pending : r.pending ≡ pop_def m.units.depth b.pending
-  pub open_au : r.open_au ≡ b.open_au
-  pub units : r.access_units ≡ b.access_units + 1
-  pub state : (w : List Float) → video_of w m r ≡ remove_unit (video_of w m b) u (entries 3 unit_at w m.units (pop_def m.units.depth b.pending))
+  pub units : r.units ≡ removed_units m.units.depth b.units u
+  pub state : (w : List Float) → video_of w m r ≡ remove_unit (video_of w m b) u (entries 3 unit_at w m.units (pop_def m.units.depth b.units.pending))
   pub events : (w : List Float) → after ≡ noted_all k (remove_events (video_of w m b) u) before
 
 -- a branch that comes to x, with the events of x in the slots; its open unit stays
 pub record AdvancedTo (w : List Float) (m : VideoLayout) (k : ℕ) (u : AccessUnit) (before : Slots) (x : Advanced) (r : VideoBranch) (after : Slots) : Type 0 where
   pub lies : VideoLies w m r
-  pub open_au : r.open_au ≡ u
+  pub open_au : r.units.open_au ≡ u
   pub state : video_of w m r ≡ x.branch
   pub slots : after ≡ noted_all k x.events before
 
@@ -191,7 +174,7 @@ pub record AdvancedTo (w : List Float) (m : VideoLayout) (k : ℕ) (u : AccessUn
 
 -- the branch with the unit whose bytes still arrive
 unfoldable pub chain_of : List Float → VideoLayout → VideoBranch → VideoChain
-chain_of w m b = record { branch = video_of w m b; open_au = open_of b.open_au }
+chain_of w m b = record { branch = video_of w m b; open_au = open_of b.units.open_au }
 
 -- the rings stand one behind the other, with places for the same count of entries
 pub record Apart (m : VideoLayout) : Type 0 where
@@ -201,12 +184,12 @@ pub record Apart (m : VideoLayout) : Type 0 where
   pub marks_depth : m.marks.depth ≡ m.runs.depth
 
 -- a branch that is fed, and comes to x; v is the work after it
-pub record VideoFedTo (w : List Float) (m : VideoLayout) (b : VideoBranch) (x : VideoFed) (r : Stepped) (v : List Float) : Type 0 where
-  pub lies : VideoLies v m r.branch
+pub record VideoFedTo (w : List Float) (m : VideoLayout) (b : VideoBranch) (x : VideoFed) (r : Result ⊤ QueueFull) (b' : VideoBranch) (v : List Float) : Type 0 where
+  pub lies : VideoLies v m b'
   pub outside : SameOutside m.runs.base (m.marks.base + 2 * m.marks.depth) w v
-  pub full : r.full ≡ x.full
-  pub state : chain_of v m r.branch ≡ x.chain
-  pub units : r.branch.access_units ≡ b.access_units
+  pub full : is_err r ≡ x.full
+  pub state : chain_of v m b' ≡ x.chain
+  pub units : b'.units.access_units ≡ b.units.access_units
 
 -- a run in MBn, without its mark; metric is what it adds to the open unit
 unfoldable pub queued_run : VideoChain → Run → Float → VideoChain
@@ -223,13 +206,13 @@ queued_run c run metric =
       open_au = grown metric c.open_au;
     }
 
-pub record QueuedTo (w : List Float) (m : VideoLayout) (b : VideoBranch) (run : Run) (metric : Float) (r : Stepped) (v : List Float) : Type 0 where
-  pub lies : VideoLies v m r.branch
+pub record QueuedTo (w : List Float) (m : VideoLayout) (b : VideoBranch) (run : Run) (metric : Float) (r : Result ⊤ QueueFull) (b' : VideoBranch) (v : List Float) : Type 0 where
+  pub lies : VideoLies v m b'
   pub outside : SameOutside m.runs.base (m.runs.base + 3 * m.runs.depth) w v
-  pub units : r.branch.access_units ≡ b.access_units
-  pub marks : r.branch.leak.flow.marks ≡ b.leak.flow.marks
-  pub full : r.full ≡ run_refused m.runs.depth (inflow_of w m.runs b.leak.mb_in) run
-  pub state : chain_of v m r.branch ≡ cond r.full (chain_of w m b) (queued_run (chain_of w m b) run metric)
+  pub units : b'.units.access_units ≡ b.units.access_units
+  pub marks : b'.leak.flow.marks ≡ b.leak.flow.marks
+  pub full : is_err r ≡ run_refused m.runs.depth (inflow_of w m.runs b.leak.mb_in) run
+  pub state : chain_of v m b' ≡ cond (is_err r) (chain_of w m b) (queued_run (chain_of w m b) run metric)
 
 -- header bytes that end where the queue then ends
 unfoldable pub marked_leak : Leak → HeaderMark → Leak
@@ -266,7 +249,7 @@ marked_run c bytes =
 pub record MarkedTo (w : List Float) (m : VideoLayout) (b : VideoBranch) (bytes : Float) (r : VideoBranch) (v : List Float) : Type 0 where
   pub lies : VideoLies v m r
   pub outside : SameOutside m.marks.base (m.marks.base + 2 * m.marks.depth) w v
-  pub units : r.access_units ≡ b.access_units
+  pub units : r.units ≡ b.units
   pub state : chain_of v m r ≡ marked_run (chain_of w m b) bytes
 
 -- ---- one step of the chain
@@ -286,57 +269,52 @@ layout_of p =
 -- the test of a step: the rings lie in a work of len floats, the count of units has room, and the chain has slots
 unfoldable pub ready : ℕ → VideoModel → VideoBranch → ℕ → Bool
 ready len p b k =
-    ((((leb (p.base + 8 * p.depth) len && fits b.leak.mb_in.runs p.depth) && fits b.pending p.depth) && fits b.leak.flow.marks p.depth)
-    && ltb b.access_units 9223372036854775808)
+    ((((leb (p.base + 8 * p.depth) len && fits b.leak.mb_in.runs p.depth) && fits b.units.pending p.depth) && fits b.leak.flow.marks p.depth)
+    && ltb b.units.access_units 9223372036854775808)
     && ltb k 64
 
 -- a step to x: the rings still lie in the work, and only the chain's part of it is written
-pub record SteppedTo (w : List Float) (m : VideoLayout) (k : ℕ) (s : Slots) (x : VideoStep) (r : Stepped) (v : List Float) (s' : Slots) : Type 0 where
-  pub lies : VideoLies v m r.branch
+pub record SteppedTo (w : List Float) (m : VideoLayout) (k : ℕ) (s : Slots) (x : VideoStep) (r : Result ⊤ QueueFull) (b' : VideoBranch) (v : List Float) (s' : Slots) : Type 0 where
+  pub lies : VideoLies v m b'
   pub outside : SameOutside m.runs.base (m.marks.base + 2 * m.marks.depth) w v
-  pub full : r.full ≡ x.full
-  pub state : chain_of v m r.branch ≡ x.chain
+  pub full : is_err r ≡ x.full
+  pub state : chain_of v m b' ≡ x.chain
   pub slots : s' ≡ noted_all k x.events s
 
-pub record Unchanged (w : List Float) (b : VideoBranch) (s : Slots) (r : Stepped) (v : List Float) (s' : Slots) : Type 0 where
-  pub result : r ≡ record { full = false; branch = b }
+pub record Unchanged (w : List Float) (b : VideoBranch) (s : Slots) (r : Result ⊤ QueueFull) (b' : VideoBranch) (v : List Float) (s' : Slots) : Type 0 where
+  pub result : r ≡ Ok tt
+  pub branch : b' ≡ b
   pub work : v ≡ w
   pub slots : s' ≡ s
 
 -- what a step ensures
-pub record StepOf (w : List Float) (p : VideoModel) (b : VideoBranch) (d : Delivered) (end : Bool) (t : Float) (k : ℕ) (s : Slots) (r : Stepped) (v : List Float) (s' : Slots) : Type 0 where
-  pub steps : ready (length w) p b k ≡ true → SteppedTo w (layout_of p) k s (video_step (rates_of (layout_of p)) p.depth d end t (chain_of w (layout_of p) b)) r v s'
-  pub otherwise : ready (length w) p b k ≡ false → Unchanged w b s r v s'
+pub record StepOf (w : List Float) (p : VideoModel) (b : VideoBranch) (d : Delivered) (t : Float) (k : ℕ) (s : Slots) (r : Result ⊤ QueueFull) (b' : VideoBranch) (v : List Float) (s' : Slots) : Type 0 where
+  pub steps : ready (length w) p b k ≡ true → SteppedTo w (layout_of p) k s (video_step (rates_of (layout_of p)) p.depth d false t (chain_of w (layout_of p) b)) r b' v s'
+  pub otherwise : ready (length w) p b k ≡ false → Unchanged w b s r b' v s'
+
+-- what the end of the stream ensures
+pub record FinishOf (w : List Float) (p : VideoModel) (b : VideoBranch) (k : ℕ) (s : Slots) (r : Result ⊤ QueueFull) (b' : VideoBranch) (v : List Float) (s' : Slots) : Type 0 where
+  pub ends : ready (length w) p b k ≡ true → SteppedTo w (layout_of p) k s (end_step (rates_of (layout_of p)) (close_au p.depth (chain_of w (layout_of p) b))) r b' v s'
+  pub otherwise : ready (length w) p b k ≡ false → Unchanged w b s r b' v s'
 
 -- what a close ensures: it needs no slots, so the test is that of slot 0
-pub record CloseOf (w : List Float) (p : VideoModel) (b : VideoBranch) (r : Stepped) (v : List Float) : Type 0 where
-  pub closes : ready (length w) p b 0 ≡ true → VideoFedTo w (layout_of p) b (close_au p.depth (chain_of w (layout_of p) b)) r v
-  pub otherwise : ready (length w) p b 0 ≡ false → (r ≡ record { full = false; branch = b }) × (v ≡ w)
-
--- the busy stretch of MBn, looked at once at the end
-pub record BusyNoted (b : VideoBranch) (k : ℕ) (before : Slots) (r : Stepped) (after : Slots) : Type 0 where
-  pub result : r ≡ record { full = false; branch = b }
-  pub slots : after ≡ noted_all k (when (lt (1f ⊕ 1e-6f) b.leak.longest_busy) (mb_busy b.leak.longest_busy)) before
+pub record CloseOf (w : List Float) (p : VideoModel) (b : VideoBranch) (r : Result ⊤ QueueFull) (b' : VideoBranch) (v : List Float) : Type 0 where
+  pub closes : ready (length w) p b 0 ≡ true → VideoFedTo w (layout_of p) b (close_au p.depth (chain_of w (layout_of p) b)) r b' v
+  pub otherwise : ready (length w) p b 0 ≡ false → ((r ≡ Ok tt) × (b' ≡ b)) × (v ≡ w)
 
 -- the branch before the first packet
-abbrev pub no_ring : Ring
-no_ring = record { head = 0; count = 0 }
-
 unfoldable pub new_branch : VideoBranch
 new_branch =
     record {
       leak = record {
-        mb_in = record { runs = no_ring; settled = 0f };
-        flow = record { marks = no_ring; transferred = 0f; eb_in = 0f; eb_removed = 0f; eb_peak = 0f };
+        mb_in = record { runs = no_entries; settled = 0f };
+        flow = record { marks = no_entries; transferred = 0f; eb_in = 0f; eb_removed = 0f; eb_peak = 0f };
         busy_since = -∞;
         longest_busy = 0f;
         mb_peak = 0f;
         proc_time = -∞;
       };
-      pending = no_ring;
-      open_au = no_unit;
+      units = no_units;
       queued = 0f;
       eb_required = 0f;
-      access_units = 0;
-      max_delay_seconds = 0f;
     }

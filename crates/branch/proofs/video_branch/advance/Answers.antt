@@ -1,14 +1,15 @@
 -- `branch::video_branch::advance` meets its contract. Assumes nothing.
 use mathlib.Core.Path.{◌≡◌}
-use Rattle.branch.specs.VideoInWork.{DueOf, until}
+use Rattle.branch.specs.UnitsInWork.{DueOf}
+use Rattle.branch.specs.VideoInWork.{until}
 use Rattle.branch.proofs.VideoAdvance.{advance_less, advance_more, advance_ends}
 use Rattle.branch.proofs.video_branch.advance.Goals as goal
 use Rattle.branch.proofs.video_branch.advance.Goals.{Joined-due, in-Some, in-None}
 
 -- the first unit that is due, and how far the leak goes on before that
 module _ (c : Joined-due) where
-  due : DueOf c.args.work.now c.args.m.units c.loop-u.cur.pending c.args.frontier c.match-due.due
-  due = elim c.match-due.branch [ in-Some w ↦ rw w.due-is (rw w.in-Some.is at c.next_due-due.ensures) | in-None w ↦ rw w.due-is c.next_due-due.ensures ]
+  due : DueOf c.args.work.now c.args.m.units c.loop-u.cur.units.pending c.args.frontier c.match-due.due
+  due = elim c.match-due.branch [ in-Some w ↦ rw w.due-is (rw w.in-Some.is at c.due-due.ensures) | in-None w ↦ rw w.due-is c.due-due.ensures ]
 
   time : c.match-due.to ≡ until c.match-due.due c.args.frontier
   time = elim c.match-due.branch [ in-Some w ↦ rw (w.due-is, w.to-is) | in-None w ↦ rw (w.due-is, w.in-None.is, w.to-is) ]

@@ -6,4 +6,4 @@ abbrev pub invariant-loop-u : goal.invariant-loop-u
 invariant-loop-u l = Advancing l.work l.m l.frontier l.k l.initial.cur l.initial.slots l.cur l.slots
 
 abbrev pub decreases-loop-u : goal.decreases-loop-u
-decreases-loop-u l = l.cur.pending.count
+decreases-loop-u l = l.cur.units.pending.count

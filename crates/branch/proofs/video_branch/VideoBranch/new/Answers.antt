@@ -5,4 +5,4 @@ use Rattle.branch.proofs.video_branch.VideoBranch.new.Goals as goal
 
 pub returns : goal.returns
 unfolding new_branch of_bits
-returns c = rw c.no_unit.ensures
+returns c = rw c.new.ensures

@@ -1,24 +1,30 @@
 -- `branch::video_branch::VideoBranch::step` meets its contract. Assumes nothing.
-use mathlib.Core.Path.{refl, sym, ◌∙◌}
+use mathlib.Core.Path.{sym, ◌∙◌}
 use mathlib.Core.Bool.{true≢false}
 use native.Mathlib.Omega.{arith}
-use Rattle.branch.proofs.VideoSteps.{ready_is, layout_apart}
+use Rattle.branch.proofs.VideoSteps.{ready_is, layout_apart, packet_delivered}
 use Rattle.branch.proofs.video_branch.VideoBranch.step.Goals as goal
 
-pub layout-requires : goal.layout-requires
-layout-requires c = let r = ready_is c.args.work.now _ _ _ (sym c.ready.ensures ∙ c.if-ready.true) in omega arith
+pub layout-m-requires : goal.layout-m-requires
+layout-m-requires c = let r = ready_is c.args.work.now _ _ _ (sym c.ready.ensures ∙ c.if-not-ready.false) in omega arith
 
-pub chain_step-requires : goal.chain_step-requires
-chain_step-requires c =
-    let r = ready_is c.args.work.now _ _ _ (sym c.ready.ensures ∙ c.if-ready.true) in rw c.layout.ensures (record { video_lies = r.lies; apart = (layout_apart _, (omega arith, (r.units, omega arith))) })
+pub advance-requires-clause-video_lies : goal.advance-requires-clause-video_lies
+advance-requires-clause-video_lies c =
+    let r = ready_is c.args.work.now _ _ _ (sym c.ready.ensures ∙ c.if-not-ready.false) in rw c.layout-m.ensures r.lies
 
-pub shape_of-work-then-ready : goal.shape_of-work-then-ready
-shape_of-work-then-ready c = c.chain_step.ensures.outside.size
+pub advance-requires-clause-k_bound : goal.advance-requires-clause-k_bound
+advance-requires-clause-k_bound c =
+    let r = ready_is c.args.work.now _ _ _ (sym c.ready.ensures ∙ c.if-not-ready.false) in
+    let l = r.lies.pending in
+    let n = r.units in
+    (omega (arith, r.slot), omega (arith, l.some, r.room))
 
-pub returns-then-ready : goal.returns-then-ready
-returns-then-ready c =
-    record { steps = λ h. rw c.layout.ensures at c.chain_step.ensures; otherwise = λ h. absurd (true≢false (sym (sym c.ready.ensures ∙ c.if-ready.true) ∙ h)) }
+pub deliver-requires : goal.deliver-requires
+deliver-requires c = rw c.layout-m.ensures (record { video_lies = rw c.layout-m.ensures at c.advance.ensures.lies; apart = layout_apart _ })
 
 pub returns : goal.returns
 returns c =
-    record { steps = λ h. absurd (true≢false (sym h ∙ (sym c.ready.ensures ∙ c.if-ready.false))); otherwise = λ h. record { result = refl; work = refl; slots = refl } }
+    record {
+      steps = λ h. packet_delivered _ _ _ _ _ _ _ _ _ _ _ _ (rw c.layout-m.ensures at c.advance.ensures) (rw c.layout-m.ensures at c.deliver.ensures);
+      otherwise = λ h. absurd (true≢false (sym (sym c.ready.ensures ∙ c.if-not-ready.false) ∙ h));
+    }

@@ -1,6 +1,0 @@
--- `branch::video_branch::queue_run` meets its contract. Assumes nothing.
-use Rattle.branch.proofs.VideoFeeding.{run_queued}
-use Rattle.branch.proofs.video_branch.queue_run.Goals as goal
-
-pub returns : goal.returns
-returns c = run_queued _ _ _ _ _ _ c.requires.video_lies c.requires.apart _ c.push_run.ensures _ c.in-Some.is
