@@ -66,16 +66,16 @@ leak_counts k = k.mb_in.runs.head ∷ k.mb_in.runs.count ∷ k.flow.marks.head �
 abbrev pub video_floats : VideoBranch → List Float
 video_floats b =
     leak_floats b.leak
-    ++ b.open_au.decode_time
-    ∷ b.open_au.bytes
-    ∷ b.open_au.first_input_time
+    ++ b.units.open_au.decode_time
+    ∷ b.units.open_au.bytes
+    ∷ b.units.open_au.first_input_time
     ∷ b.queued
     ∷ b.eb_required
-    ∷ b.max_delay_seconds
+    ∷ b.units.max_delay_seconds
     ∷ []
 
 abbrev pub video_counts : VideoBranch → List ℕ
-video_counts b = leak_counts b.leak ++ b.pending.head ∷ b.pending.count ∷ b.access_units ∷ []
+video_counts b = leak_counts b.leak ++ b.units.pending.head ∷ b.units.pending.count ∷ b.units.access_units ∷ []
 
 -- the count stands in two bytes, the lower first
 abbrev pub scanner_bytes : PesScanner → List ℕ
@@ -144,12 +144,14 @@ abbrev pub video_at : List Float → List ℕ → ℕ → ℕ → VideoBranch
 video_at l n b c =
     record {
       leak = video_leak_at l n b c;
-      pending = record { head = get_or n (c + 9) 0; count = get_or n (c + 10) 0 };
-      open_au = record { decode_time = get_or l (b + 22) nan; bytes = get_or l (b + 23) nan; first_input_time = get_or l (b + 24) nan };
+      units = record {
+        pending = record { head = get_or n (c + 9) 0; count = get_or n (c + 10) 0 };
+        open_au = record { decode_time = get_or l (b + 22) nan; bytes = get_or l (b + 23) nan; first_input_time = get_or l (b + 24) nan };
+        access_units = get_or n (c + 11) 0;
+        max_delay_seconds = get_or l (b + 27) nan;
+      };
       queued = get_or l (b + 25) nan;
       eb_required = get_or l (b + 26) nan;
-      access_units = get_or n (c + 11) 0;
-      max_delay_seconds = get_or l (b + 27) nan;
     }
 
 abbrev pub scanner_at : List ℕ → ℕ → PesScanner

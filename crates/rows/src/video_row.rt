@@ -8,6 +8,7 @@ use branch::AccessUnit;
 use branch::inflow::CumulativeIn;
 use branch::leak::{Flow, Leak};
 use branch::queue::Ring;
+use branch::units::Units;
 use branch::video_branch::VideoBranch;
 
 // MBn and what it leaked, of a chain whose floats begin at b and whose counts begin at c.
@@ -51,19 +52,21 @@ pub fn video_of(floats: &[f64; FLOATS], counts: &[u64; COUNTS], i: usize) -> Vid
     let c = 16 * i;
     VideoBranch {
         leak: leak_at(floats, counts, b, c),
-        pending: Ring {
-            head: counts[c + places::VIDEO_PENDING_HEAD] as usize,
-            count: counts[c + places::VIDEO_PENDING_COUNT] as usize,
-        },
-        open_au: AccessUnit {
-            decode_time: floats[b + places::VIDEO_DECODE_TIME],
-            bytes: floats[b + places::VIDEO_BYTES],
-            first_input_time: floats[b + places::VIDEO_FIRST_INPUT_TIME],
+        units: Units {
+            pending: Ring {
+                head: counts[c + places::VIDEO_PENDING_HEAD] as usize,
+                count: counts[c + places::VIDEO_PENDING_COUNT] as usize,
+            },
+            open_au: AccessUnit {
+                decode_time: floats[b + places::VIDEO_DECODE_TIME],
+                bytes: floats[b + places::VIDEO_BYTES],
+                first_input_time: floats[b + places::VIDEO_FIRST_INPUT_TIME],
+            },
+            access_units: counts[c + places::VIDEO_ACCESS_UNITS],
+            max_delay_seconds: floats[b + places::VIDEO_MAX_DELAY],
         },
         queued: floats[b + places::VIDEO_QUEUED],
         eb_required: floats[b + places::VIDEO_EB_REQUIRED],
-        access_units: counts[c + places::VIDEO_ACCESS_UNITS],
-        max_delay_seconds: floats[b + places::VIDEO_MAX_DELAY],
     }
 }
 
@@ -96,13 +99,13 @@ pub fn set_video(floats: &mut [f64; FLOATS], counts: &mut [u64; COUNTS], i: usiz
     let b = 32 * i;
     let c = 16 * i;
     set_leak(floats, counts, b, c, v.leak);
-    counts[c + places::VIDEO_PENDING_HEAD] = v.pending.head as u64;
-    counts[c + places::VIDEO_PENDING_COUNT] = v.pending.count as u64;
-    counts[c + places::VIDEO_ACCESS_UNITS] = v.access_units;
-    floats[b + places::VIDEO_DECODE_TIME] = v.open_au.decode_time;
-    floats[b + places::VIDEO_BYTES] = v.open_au.bytes;
-    floats[b + places::VIDEO_FIRST_INPUT_TIME] = v.open_au.first_input_time;
+    counts[c + places::VIDEO_PENDING_HEAD] = v.units.pending.head as u64;
+    counts[c + places::VIDEO_PENDING_COUNT] = v.units.pending.count as u64;
+    counts[c + places::VIDEO_ACCESS_UNITS] = v.units.access_units;
+    floats[b + places::VIDEO_DECODE_TIME] = v.units.open_au.decode_time;
+    floats[b + places::VIDEO_BYTES] = v.units.open_au.bytes;
+    floats[b + places::VIDEO_FIRST_INPUT_TIME] = v.units.open_au.first_input_time;
     floats[b + places::VIDEO_QUEUED] = v.queued;
     floats[b + places::VIDEO_EB_REQUIRED] = v.eb_required;
-    floats[b + places::VIDEO_MAX_DELAY] = v.max_delay_seconds;
+    floats[b + places::VIDEO_MAX_DELAY] = v.units.max_delay_seconds;
 }
