@@ -15,19 +15,21 @@ use Rattle.events.proofs.Noted.{noted_all_append_lem}
 use Rattle.branch.specs.declared.Delivered.{Delivered}
 use Rattle.branch.specs.declared.main_branch.MainModel.{MainModel}
 use Rattle.branch.specs.declared.main_branch.MainBranch.{MainBranch}
-use Rattle.branch.specs.declared.main_branch.Stepped.{Stepped}
+use Rattle.branch.specs.declared.QueueFull.{QueueFull}
+use Rattle.std.specs.Prelude.{⊤, Result, Ok, Err, is_err, IsErr}
 use Rattle.branch.specs.Queue.{floats_at}
 use Rattle.branch.specs.InflowInWork.{run_of}
 use Rattle.branch.specs.MainBranch.{Main, OpenAu, none, unit, Drained, drain, look_at_end, finish, Fed, fed, with_units, close_by, close_au, deliver, Step, packet_step, end_step, main_step, new_main}
-use Rattle.branch.specs.MainInWork.{new_branch, no_entries, runs_place, units_place, unit_of, main_of, BranchLies, ready, DrainedTo, FedTo, SteppedTo, StepOf}
-use Rattle.branch.proofs.Rings.{both, ring_fits, lying_fits, outside_then, no_entries_lem}
-use Rattle.branch.proofs.Feeding.{open_none}
+use Rattle.branch.specs.UnitsInWork.{unit_at}
+use Rattle.branch.specs.MainInWork.{new_branch, no_entries, runs_place, units_place, main_of, BranchLies, ready, DrainedTo, FedTo, SteppedTo, Unchanged, StepOf, FinishOf, CloseOf}
+use Rattle.branch.proofs.Rings.{both, ring_fits, lying_fits, no_entries_lem}
+use Rattle.branch.proofs.UnitQueues.{open_none}
 
 -- ---- the test
 
 pub record Ready (w : List Float) (p : MainModel) (b : MainBranch) (k : ℕ) : Type 0 where
   pub lies : BranchLies w p b
-  pub units : b.access_units < 9223372036854775808
+  pub units : b.units.access_units < 9223372036854775808
   pub slots : k < 64
 
 pub ready_lies : (w : List Float) (p : MainModel) (b : MainBranch) (k : ℕ) → ready (length w) p b k ≡ true → Ready w p b k
@@ -39,7 +41,7 @@ ready_lies w p b k e =
     let e4 = both _ _ e3.0 in
     let room : p.base + 6 * p.depth ≤ length w = leb-true _ _ e4.0 in
     record {
-      lies = record { runs = ring_fits 3 w (runs_place p) b.inflow.runs (omega arith) e4.1; pending = ring_fits 3 w (units_place p) b.pending (omega arith) e3.1 };
+      lies = record { runs = ring_fits 3 w (runs_place p) b.inflow.runs (omega arith) e4.1; pending = ring_fits 3 w (units_place p) b.units.pending (omega arith) e3.1 };
       units = ltb-true _ _ e2.1;
       slots = ltb-true _ _ e1.1;
     }
@@ -54,85 +56,90 @@ lies_ready w p b k r =
       le-leb (p.base + 6 * p.depth) (length w) room,
       lying_fits l.runs,
       lying_fits l.pending,
-      lt-ltb b.access_units 9223372036854775808 r.units,
+      lt-ltb b.units.access_units 9223372036854775808 r.units,
       lt-ltb k 64 r.slots,
     )
 
 -- ---- the step
 
-module _ (w : List Float) (p : MainModel) (b : MainBranch) (d : Delivered) (end : Bool) (t : Float) (k : ℕ) (s : Slots) where
-  abbrev whole : Step
-  whole = main_step p.buffer_size p.depth d end t (main_of w p b)
+module _ (w : List Float) (p : MainModel) (b : MainBranch) (k : ℕ) (s : Slots) where
+  pub unchanged : Unchanged w b s (Ok tt) b w s
+  unchanged = record { result = refl; branch = refl; work = refl; slots = refl }
 
-  pub not_ready : ready (length w) p b k ≡ false → StepOf w p b d end t k s (record { full = false; branch = b }) w s
-  not_ready e = record { steps = λ f. absurd (true≢false (sym f ∙ e)); otherwise = λ f. record { result = refl; work = refl; slots = refl } }
+  module _ (d : Delivered) (t : Float) where
+    pub step_not_ready : ready (length w) p b k ≡ false → StepOf w p b d t k s (Ok tt) b w s
+    step_not_ready e = record { steps = λ f. absurd (true≢false (sym f ∙ e)); otherwise = λ f. unchanged }
 
-  pub is_ready : (r : Stepped) (v : List Float) (s' : Slots) → Ready w p b k → SteppedTo w p k s whole r v s' → StepOf w p b d end t k s r v s'
-  is_ready r v s' a m = record { steps = λ f. m; otherwise = λ f. absurd (true≢false (sym (lies_ready w p b k a) ∙ f)) }
+    step_ready : (r : Result ⊤ QueueFull) (c : MainBranch) (v : List Float) (s' : Slots) → Ready w p b k → SteppedTo w p k s (main_step p.buffer_size p.depth d false t (main_of w p b)) r c v s' → StepOf w p b d t k s r c v s'
+    step_ready r c v s' a m = record { steps = λ f. m; otherwise = λ f. absurd (true≢false (sym (lies_ready w p b k a) ∙ f)) }
+
+    -- what is drained, and what is delivered to it
+    pub step_made : (m c : MainBranch) (x : Slots) (r : Result ⊤ QueueFull) (v : List Float) → Ready w p b k → DrainedTo w p k s (drain p.buffer_size t (main_of w p b)) m x →
+        FedTo w p m (deliver p.depth d (main_of w p m)) r c v → StepOf w p b d t k s r c v x
+    unfolding main_step packet_step
+    step_made m c x r v a dr l =
+        step_ready r c v x a
+        (record {
+          lies = l.lies;
+          outside = l.outside;
+          full = l.full ∙ ap (λ (z : Main). (deliver p.depth d z).full) dr.state;
+          state = l.state ∙ ap (λ (z : Main). (deliver p.depth d z).branch) dr.state;
+          slots = dr.slots;
+        })
+
+  pub finish_not_ready : ready (length w) p b k ≡ false → FinishOf w p b k s (Ok tt) b w s
+  finish_not_ready e = record { ends = λ f. absurd (true≢false (sym f ∙ e)); otherwise = λ f. unchanged }
+
+  finish_ready : (r : Result ⊤ QueueFull) (c : MainBranch) (v : List Float) (s' : Slots) → Ready w p b k → SteppedTo w p k s (end_step p.buffer_size (close_au p.depth (main_of w p b))) r c v s' → FinishOf w p b k s r c v s'
+  finish_ready r c v s' a m = record { ends = λ f. m; otherwise = λ f. absurd (true≢false (sym (lies_ready w p b k a) ∙ f)) }
+
+  module _ (u : List Float) (r : Result ⊤ QueueFull) (c : MainBranch) (a : Ready w p b k) (cl : FedTo w p b (close_au p.depth (main_of w p b)) r c u) where
+    -- the open unit finds no place
+    pub finish_refused : (e : QueueFull) (r' : Result ⊤ QueueFull) → r ≡ Err e → IsErr r' → FinishOf w p b k s r' c u s
+    unfolding end_step noted_all
+    finish_refused e r' f h =
+        let full : (close_au p.depth (main_of w p b)).full ≡ true = sym cl.full ∙ ap is_err f in
+        finish_ready r' c u s a (rw full (record { lies = cl.lies; outside = cl.outside; full = h; state = cl.state; slots = refl }))
+
+    -- every removal, and the look at the end
+    pub finish_made : (m z : MainBranch) (x y : Slots) → r ≡ Ok tt → DrainedTo u p k s (drain p.buffer_size +∞ (main_of u p c)) m x →
+        DrainedTo u p k x (look_at_end p.buffer_size (main_of u p m)) z y → FinishOf w p b k s (Ok tt) z u y
+    unfolding end_step finish
+    finish_made m z x y f dr l =
+        let F = close_au p.depth (main_of w p b) in
+        let size = p.buffer_size in
+        let full : F.full ≡ false = sym cl.full ∙ ap is_err f in
+        let D : drain size +∞ (main_of u p c) ≡ drain size +∞ F.branch = ap (drain size +∞) cl.state in
+        let here : main_of u p m ≡ (drain size +∞ F.branch).branch = dr.state ∙ ap (λ (z : Drained). z.branch) D in
+        finish_ready (Ok tt) z u y a
+        (rw full
+        (record {
+          lies = l.lies;
+          outside = cl.outside;
+          full = refl;
+          state = l.state ∙ ap (λ (z : Main). (look_at_end size z).branch) here;
+          slots =
+              l.slots
+              ∙ (ap (λ (z : Main). noted_all k (look_at_end size z).events x) here
+              ∙ (ap (noted_all k (look_at_end size (drain size +∞ F.branch).branch).events) (dr.slots ∙ ap (λ (z : Drained). noted_all k z.events s) D)
+              ∙ sym (noted_all_append_lem k (drain size +∞ F.branch).events (look_at_end size (drain size +∞ F.branch).branch).events s)));
+        }))
 
 -- the count of units has room for a removal of every pending one
-pub room_to_drain : {w u : List Float} {p : MainModel} {b : MainBranch} {k : ℕ} {x : Fed} {r : Stepped} → length w ≤ 1152921504606846976 → Ready w p b k → FedTo w p b x r u → r.branch.access_units + r.branch.pending.count ≤ 18446744073709551615
-room_to_drain h a m =
-    let l = m.lies.pending in
+pub room_to_drain : {w u : List Float} {p : MainModel} {b c : MainBranch} {k : ℕ} → length w ≤ 1152921504606846976 → Ready w p b k → BranchLies u p c → c.units.access_units ≡ b.units.access_units → c.units.access_units + c.units.pending.count ≤ 18446744073709551615
+room_to_drain h a m n =
+    let l = m.pending in
     let z = a.lies.pending in
-    let n = m.units in
     let o = a.units in
     omega (arith, l.some, z.room)
 
--- the open unit finds no place at the end
-pub step_refused : (w : List Float) (p : MainModel) (b : MainBranch) (d : Delivered) (end : Bool) (t : Float) (k : ℕ) (s : Slots) (r : Stepped) (v : List Float) →
-    FedTo w p b (cond end (close_au p.depth (main_of w p b)) (fed (main_of w p b))) r v → r.full ≡ true → SteppedTo w p k s (main_step p.buffer_size p.depth d end t (main_of w p b)) r v s
-unfolding main_step end_step noted_all
-step_refused w p b d true t k s r v m f =
-    let c : (close_au p.depth (main_of w p b)).full ≡ true = sym m.full ∙ f in
-    rw c (record { lies = m.lies; outside = m.outside; full = f; state = m.state; slots = refl })
-step_refused w p b d false t k s r v m f = absurd (true≢false (sym f ∙ m.full))
+-- ---- a close
 
--- what is drained, of the state that was fed
-module _ (w u : List Float) (p : MainModel) (b : MainBranch) (d : Delivered) (end : Bool) (t : Float) (k : ℕ) (s x : Slots) (c : Stepped) (m : MainBranch) (f : Float) (cl : FedTo w p b (cond end (close_au p.depth (main_of w p b)) (fed (main_of w p b))) c u) (placed : c.full ≡ false) (at : f ≡ cond end +∞ t) (dr : DrainedTo u p k s (drain p.buffer_size f (main_of u p c.branch)) m x) where
-  -- the end
-  pub step_ended : (r : MainBranch) (y : Slots) → end ≡ true → DrainedTo u p k x (look_at_end p.buffer_size (main_of u p m)) r y →
-      SteppedTo w p k s (main_step p.buffer_size p.depth d end t (main_of w p b)) (record { full = false; branch = r }) u y
-  unfolding main_step end_step finish
-  step_ended r y e l =
-      let F = close_au p.depth (main_of w p b) in
-      let size = p.buffer_size in
-      let g : f ≡ +∞ = rw e at at in
-      let cl' : FedTo w p b F c u = rw e at cl in
-      let full : F.full ≡ false = sym cl'.full ∙ placed in
-      let D : drain size f (main_of u p c.branch) ≡ drain size +∞ F.branch = rw (g, cl'.state) in
-      let here : main_of u p m ≡ (drain size +∞ F.branch).branch = dr.state ∙ ap (λ (z : Drained). z.branch) D in
-      rw (e, full)
-      (record {
-        lies = l.lies;
-        outside = cl'.outside;
-        full = refl;
-        state = l.state ∙ ap (λ (z : Main). (look_at_end size z).branch) here;
-        slots =
-            l.slots
-            ∙ (ap (λ (z : Main). noted_all k (look_at_end size z).events x) here
-            ∙ (ap (noted_all k (look_at_end size (drain size +∞ F.branch).branch).events) (dr.slots ∙ ap (λ (z : Drained). noted_all k z.events s) D)
-            ∙ sym (noted_all_append_lem k (drain size +∞ F.branch).events (look_at_end size (drain size +∞ F.branch).branch).events s)));
-      })
+pub close_not_ready : (w : List Float) (p : MainModel) (b : MainBranch) → ready (length w) p b 0 ≡ false → CloseOf w p b (Ok tt) b w
+close_not_ready w p b e = record { closes = λ f. absurd (true≢false (sym f ∙ e)); otherwise = λ f. (refl, (refl, refl)) }
 
-  -- a packet
-  pub step_packet : (r : Stepped) (v : List Float) → end ≡ false → FedTo u p m (deliver p.depth d (main_of u p m)) r v →
-      SteppedTo w p k s (main_step p.buffer_size p.depth d end t (main_of w p b)) r v x
-  unfolding main_step packet_step
-  step_packet r v e l =
-      let size = p.buffer_size in
-      let g : f ≡ t = rw e at at in
-      let cl' : FedTo w p b (fed (main_of w p b)) c u = rw e at cl in
-      let D : drain size f (main_of u p c.branch) ≡ drain size t (main_of w p b) = rw (g, cl'.state) in
-      let here : main_of u p m ≡ (drain size t (main_of w p b)).branch = dr.state ∙ ap (λ (z : Drained). z.branch) D in
-      rw e
-      (record {
-        lies = l.lies;
-        outside = outside_then cl'.outside l.outside;
-        full = l.full ∙ ap (λ (z : Main). (deliver p.depth d z).full) here;
-        state = l.state ∙ ap (λ (z : Main). (deliver p.depth d z).branch) here;
-        slots = dr.slots ∙ ap (λ (z : Drained). noted_all k z.events s) D;
-      })
+pub close_ready : (w v : List Float) (p : MainModel) (b c : MainBranch) (r : Result ⊤ QueueFull) → ready (length w) p b 0 ≡ true → FedTo w p b (close_au p.depth (main_of w p b)) r c v → CloseOf w p b r c v
+close_ready w v p b c r e m = record { closes = λ f. m; otherwise = λ f. absurd (true≢false (sym e ∙ f)) }
 
 -- ---- a caller that closes first, and then steps to the end
 
@@ -161,13 +168,13 @@ module _ (size : Float) (depth : ℕ) (d : Delivered) (t : Float) (b : Main) whe
 
 pub new_is : (w : List Float) (p : MainModel) → main_of w p new_branch ≡ new_main
 unfolding main_of new_branch new_main
-new_is w p = rw (no_entries_lem 3 (λ u o. run_of (floats_at 3 u o)) w (runs_place p) no_entries refl, no_entries_lem 3 (λ u o. unit_of (floats_at 3 u o)) w (units_place p) no_entries refl, open_none)
+new_is w p = rw (no_entries_lem 3 (λ u o. run_of (floats_at 3 u o)) w (runs_place p) no_entries refl, no_entries_lem 3 unit_at w (units_place p) no_entries refl, open_none)
 
 pub new_lies : (w : List Float) (p : MainModel) → 0 < p.depth → p.base + 6 * p.depth ≤ length w → BranchLies w p new_branch
 unfolding new_branch
 new_lies w p d h = record { runs = record { inside = d; some = omega arith; room = omega arith }; pending = record { inside = d; some = omega arith; room = omega arith } }
 
 -- the chain's figures are fields of the branch
-pub figures_of_lem : (w : List Float) (p : MainModel) (b : MainBranch) → ((main_of w p b).peak ≡ b.peak) × (((main_of w p b).units ≡ b.access_units) × ((main_of w p b).max_delay ≡ b.max_delay_seconds))
+pub figures_of_lem : (w : List Float) (p : MainModel) (b : MainBranch) → ((main_of w p b).peak ≡ b.peak) × (((main_of w p b).units ≡ b.units.access_units) × ((main_of w p b).max_delay ≡ b.units.max_delay_seconds))
 unfolding main_of
 figures_of_lem w p b = (refl, (refl, refl))

@@ -1,8 +1,10 @@
 -- What becomes of the units of a branch, in terms of the list in their ring.
-use Prim.Native.Nat.{ℕ, ◌+◌, ◌<◌}
+use Prim.Native.Nat.{ℕ, ◌+◌, ◌*◌, ◌≤◌, ◌<◌}
 use mathlib.Core.Path.{◌≡◌, refl, sym, ap, ◌∙◌}
 use mathlib.Core.Bool.{Bool, true, false, cond}
 use mathlib.Core.List.{List, [], ◌∷◌, ◌++◌}
+use mathlib.Core.Logic.{◌⊎◌}
+use native.Mathlib.Omega.{arith}
 use lib.Dec.{eqb}
 use lib.Ieee.{Float, lt, le, ne, eq}
 use Rattle.ieee.specs.Binary64.{◌⊕◌, ◌⊖◌, -∞, 0f, 1f, 1e-6f}
@@ -18,10 +20,10 @@ use Rattle.branch.specs.declared.QueueFull.{QueueFull}
 use Rattle.branch.specs.declared.queue.Place.{Place}
 use Rattle.branch.specs.declared.queue.Ring.{Ring}
 use Rattle.branch.specs.declared.units.Units.{Units}
-use Rattle.branch.specs.Queue.{Lies, place_of, entries, pop_def, PushedTo}
+use Rattle.branch.specs.Queue.{Lies, SameOutside, place_of, floats_at, entries, pop_def, PushedTo}
 use Rattle.branch.specs.Units.{none, unit, open_of, stamp_of, grown, Waiting, Queued, with_open, close_by, close_units, open_units, due_now, unit_events}
-use Rattle.branch.specs.UnitsInWork.{unit_of, floats_of_unit, unit_at, waiting_of, no_unit, UnitsTo, DueOf}
-use Rattle.branch.proofs.Rings.{popped, count_entries, no_entries_lem, floats_local, outside_refl, push_room, push_refused, push_adds, push_lies, push_outside}
+use Rattle.branch.specs.UnitsInWork.{unit_of, floats_of_unit, unit_at, waiting_of, no_unit, UnitsTo, grown_units, FirstOf, DueOf}
+use Rattle.branch.proofs.Rings.{some_is, kept, popped, count_entries, no_entries_lem, floats_local, outside_refl, push_room, push_refused, push_adds, push_lies, push_outside}
 
 -- ---- the events of a removal
 
@@ -31,28 +33,39 @@ unfolding kind_of figure_of decode_of
 noted_removal k arrived required u s s' s'' e e' =
     e' ∙ (sym (noted_all_when_lem k _ (delay _ _) s') ∙ (ap (noted_all k _) (e ∙ sym (noted_all_when_lem k _ (underflow _ _) s)) ∙ sym (noted_all_append_lem k _ _ s)))
 
+-- ---- the pending units, where the work changes elsewhere
+
+pub units_kept : {lo hi : ℕ} {w : List Float} (v : List Float) (p : Place) (q : Ring) → Lies 3 w p q → SameOutside lo hi w v → (p.base + 3 * p.depth ≤ lo) ⊎ (hi ≤ p.base) → entries 3 unit_at v p q ≡ entries 3 unit_at w p q
+unfolding unit_at
+units_kept {lo} {hi} {w} v p q l o h = kept 3 (λ u i. unit_of (floats_at 3 u i)) (floats_local 3 unit_of) p q l o h
+
 -- ---- the first unit
 
-module _ (w : List Float) (p : Place) (q : Ring) (f : Float) where
-  module _ (u : AccessUnit) (l : Lies 3 w p q) (h : 0 < q.count) (e : u ≡ unit_at w (place_of 3 p q 0)) where
-    first_is : entries 3 unit_at w p q ≡ u ∷ entries 3 unit_at w p (pop_def p.depth q)
-    first_is = popped 3 unit_at w p q l h ∙ rw e
+module _ (w : List Float) (p : Place) (q : Ring) where
+  pub first_none : q.count ≡ 0 → FirstOf w p q None
+  first_none n = record { none = λ e. no_entries_lem 3 unit_at w p q n; some = λ u e. absurd (none-some u e) }
 
-    tested : due_now (entries 3 unit_at w p q) f ≡ cond (le u.decode_time f) (Some u) None
+  pub first_some : (e : List Float) → Lies 3 w p q → 0 < q.count → e ≡ floats_at 3 w (place_of 3 p q 0) → FirstOf w p q (Some (unit_of e))
+  unfolding unit_at
+  first_some e l h f =
+      record {
+        none = λ x. absurd (none-some (unit_of e) (sym x));
+        some = λ u x. (h, popped 3 unit_at w p q l h ∙ rw (sym (some_is x), f) refl);
+      }
+
+  module _ (f : Float) (r : Option AccessUnit) (m : FirstOf w p q r) where
+    pub due_none : r ≡ None → DueOf w p q f None
     unfolding due_now
-    tested = ap (λ (z : List AccessUnit). due_now z f) first_is
+    due_none e = record { test = rw (m.none e) refl; some = λ x y. absurd (none-some x y) }
 
-    pub due_first : le u.decode_time f ≡ true → DueOf w p q f (Some u)
-    due_first t = record { test = sym (tested ∙ simp t); some = λ x z. h }
+    module _ (u : AccessUnit) (e : r ≡ Some u) where
+      pub due_first : le u.decode_time f ≡ true → DueOf w p q f (Some u)
+      unfolding due_now
+      due_first t = record { test = rw (m.some u e).1 (simp t); some = λ x z. (m.some u e).0 }
 
-    pub due_later : le u.decode_time f ≡ false → DueOf w p q f None
-    due_later t = record { test = sym (tested ∙ simp t); some = λ x z. absurd (none-some x z) }
-
-  pub due_none : q.count ≡ 0 → DueOf w p q f None
-  unfolding due_now
-  due_none n =
-      let z = no_entries_lem 3 unit_at w p q n in
-      record { test = sym (ap (λ (x : List AccessUnit). due_now x f) z); some = λ x y. absurd (none-some x y) }
+      pub due_later : le u.decode_time f ≡ false → DueOf w p q f None
+      unfolding due_now
+      due_later t = record { test = rw (m.some u e).1 (simp t); some = λ x z. absurd (none-some x z) }
 
 -- ---- the open unit
 

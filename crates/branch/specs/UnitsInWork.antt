@@ -1,5 +1,5 @@
 -- The units of a branch whose queue stands in a ring of the work, as a list; what the functions of `Units` ensure.
-use Rattle.std.specs.Prelude.{ℕ, ◌+◌, ◌*◌, ◌<◌, ◌≡◌, ⊤, Option, Some, Result, List, [], ◌∷◌, get_or, is_err, Float}
+use Rattle.std.specs.Prelude.{ℕ, ◌+◌, ◌*◌, ◌<◌, ◌≡◌, ⊤, Option, Some, None, Result, List, [], ◌∷◌, get_or, is_err, Float}
 use Rattle.std.specs.Float.{nan}
 use Rattle.ieee.specs.Binary64.{◌⊕◌, ◌⊖◌, 0f, -∞}
 use Rattle.ieee.specs.MaxMin.{max_of}
@@ -53,6 +53,12 @@ grown_units u bytes =
       max_delay_seconds = u.max_delay_seconds;
     }
 
+-- the first pending unit
+pub record FirstOf (w : List Float) (p : Place) (q : Ring) (r : Option AccessUnit) : Type 0 where
+  pub none : r ≡ None → entries 3 unit_at w p q ≡ []
+  pub some : (u : AccessUnit) → r ≡ Some u → (0 < q.count) × (entries 3 unit_at w p q ≡ u ∷ entries 3 unit_at w p (pop_def p.depth q))
+
+-- the same, where it is due
 pub record DueOf (w : List Float) (p : Place) (q : Ring) (frontier : Float) (r : Option AccessUnit) : Type 0 where
   pub test : r ≡ due_now (entries 3 unit_at w p q) frontier
   pub some : (u : AccessUnit) → r ≡ Some u → 0 < q.count

@@ -3,9 +3,9 @@ ghost use Rattle.std.specs.Prelude.{◌≡◌, ◌+◌, ◌≤◌, ◌<◌};
 ghost use Rattle.std.specs.Float.Ieee.{ne};
 ghost use Rattle.ieee.specs.Binary64.{0f, -∞};
 ghost use Rattle.events.specs.Slots.{noted_all};
-ghost use Rattle.branch.specs.Queue.{Lies, place_of};
+ghost use Rattle.branch.specs.Queue.{Lies};
 ghost use Rattle.branch.specs.Units.{close_units, open_units, stamp_of, unit_events};
-ghost use Rattle.branch.specs.UnitsInWork.{unit_at, floats_of_unit, no_unit, no_units, waiting_of, UnitsTo, grown_units, DueOf, removed_units};
+ghost use Rattle.branch.specs.UnitsInWork.{floats_of_unit, no_unit, no_units, waiting_of, UnitsTo, grown_units, FirstOf, DueOf, removed_units};
 
 use crate::queue::{Place, Ring, entry, pop, push};
 use crate::{AccessUnit, Delivered, QueueFull};
@@ -21,7 +21,7 @@ pub struct Units {
     pub max_delay_seconds: f64,
 }
 
-fn no_unit() -> AccessUnit
+pub(crate) fn no_unit() -> AccessUnit
     ensures { result ≡ no_unit }
 {
     AccessUnit {
@@ -31,29 +31,14 @@ fn no_unit() -> AccessUnit
     }
 }
 
-fn is_open(u: AccessUnit) -> bool
+pub(crate) fn is_open(u: AccessUnit) -> bool
     ensures { result ≡ ne u.decode_time -∞ }
 {
     u.decode_time != f64::NEG_INFINITY
 }
 
-// The pending unit i from the front.
-#[tactic(auto, unfolding(crate::specs::UnitsInWork::unit_at))]
-fn unit_at(q: Ring, w: Place, work: &[f64], i: usize) -> AccessUnit
-    requires lies { Lies 3 work.now w q }
-    requires i_lt_count { i < q.count }
-    ensures { result ≡ unit_at work.now (place_of 3 w q i) }
-{
-    let [decode_time, bytes, first_input_time] = entry::<3>(q, w, work, i);
-    AccessUnit {
-        decode_time,
-        bytes,
-        first_input_time,
-    }
-}
-
 // The unit as an entry of the ring of pending units.
-fn entry_of(u: AccessUnit) -> [f64; 3]
+pub(crate) fn entry_of(u: AccessUnit) -> [f64; 3]
     ensures { result ≡ floats_of_unit u }
 {
     [u.decode_time, u.bytes, u.first_input_time]
@@ -129,19 +114,32 @@ impl Units {
         self.open_au.bytes = self.open_au.bytes + bytes;
     }
 
-    // The first pending unit, where it is due.
-    pub(crate) fn due(self, w: Place, work: &[f64], frontier: f64) -> Option<AccessUnit>
+    // The first pending unit.
+    pub(crate) fn first(self, w: Place, work: &[f64]) -> Option<AccessUnit>
         requires { Lies 3 work.now w self.pending }
-        ensures { DueOf work.now w self.pending frontier result }
+        ensures { FirstOf work.now w self.pending result }
     {
         if self.pending.count == 0 {
             return None;
         }
-        let unit = unit_at(self.pending, w, work, 0);
-        if !(unit.decode_time <= frontier) {
-            return None;
+        let [decode_time, bytes, first_input_time] = entry::<3>(self.pending, w, work, 0);
+        Some(AccessUnit {
+            decode_time,
+            bytes,
+            first_input_time,
+        })
+    }
+
+    // The same, where it is due.
+    pub(crate) fn due(self, w: Place, work: &[f64], frontier: f64) -> Option<AccessUnit>
+        requires { Lies 3 work.now w self.pending }
+        ensures { DueOf work.now w self.pending frontier result }
+    {
+        let unit = self.first(w, work)?;
+        if unit.decode_time <= frontier {
+            return Some(unit);
         }
-        Some(unit)
+        None
     }
 
     // The first pending unit, u, goes.
