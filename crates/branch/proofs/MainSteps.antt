@@ -1,7 +1,7 @@
 -- The step of a main chain, put together from what its parts ensure.
 use Prim.Native.Nat.{ℕ, ◌+◌, ◌*◌, ◌≤◌, ◌<◌}
 use mathlib.Core.Path.{◌≡◌, refl, sym, ap, ◌∙◌}
-use mathlib.Core.Bool.{Bool, true, false, cond, true≢false}
+use mathlib.Core.Bool.{Bool, true, false, true≢false}
 use mathlib.Core.List.{List, []}
 use native.Mathlib.Omega.{arith}
 use lib.ListN.{length}
@@ -19,7 +19,7 @@ use Rattle.branch.specs.declared.QueueFull.{QueueFull}
 use Rattle.std.specs.Prelude.{⊤, Result, Ok, Err, is_err, IsErr}
 use Rattle.branch.specs.Queue.{floats_at}
 use Rattle.branch.specs.InflowInWork.{run_of}
-use Rattle.branch.specs.MainBranch.{Main, OpenAu, none, unit, Drained, drain, look_at_end, finish, Fed, fed, with_units, close_by, close_au, deliver, Step, packet_step, end_step, main_step, new_main}
+use Rattle.branch.specs.MainBranch.{Main, OpenAu, none, unit, Drained, drain, look_at_end, finish, with_units, close_by, close_au, deliver, packet_step, end_step, main_step, new_main}
 use Rattle.branch.specs.UnitsInWork.{unit_at}
 use Rattle.branch.specs.MainInWork.{new_branch, no_entries, runs_place, units_place, main_of, BranchLies, ready, DrainedTo, FedTo, SteppedTo, Unchanged, StepOf, FinishOf, CloseOf}
 use Rattle.branch.proofs.Rings.{both, ring_fits, lying_fits, no_entries_lem}

@@ -2,12 +2,12 @@
 use Prim.Native.Nat.{ℕ, ◌+◌, ◌≤◌, ◌<◌}
 use mathlib.Core.Path.{◌≡◌, refl, sym, ap, ◌∙◌}
 use mathlib.Core.Bool.{true, false}
-use mathlib.Core.List.{List, [], ◌∷◌, ◌++◌}
+use mathlib.Core.List.{List, [], ◌∷◌}
 use native.Mathlib.Omega.{arith}
 use lib.Ieee.{Float, lt}
 use Rattle.ieee.specs.Binary64.{◌⊕◌, ◌⊖◌, 0f, 1f}
 use Rattle.ieee.specs.MaxMin.{max_of, min_of}
-use Rattle.events.specs.Event.{Event, overflow, when, kind_of, figure_of, decode_of}
+use Rattle.events.specs.Event.{overflow, when, kind_of, figure_of, decode_of}
 use Rattle.events.specs.declared.Slots.{Slots}
 use Rattle.events.specs.Slots.{noted_if, noted_all}
 use Rattle.events.proofs.Noted.{noted_all_append_lem, noted_all_when_lem}

@@ -4,7 +4,6 @@ use mathlib.Core.Path.{◌≡◌, refl, sym, ap, ◌∙◌}
 use mathlib.Core.Bool.{Bool, true, false, cond}
 use mathlib.Core.List.{List, [], ◌∷◌, ◌++◌}
 use mathlib.Core.Logic.{◌⊎◌}
-use native.Mathlib.Omega.{arith}
 use lib.Dec.{eqb}
 use lib.Ieee.{Float, lt, le, ne, eq}
 use Rattle.ieee.specs.Binary64.{◌⊕◌, ◌⊖◌, -∞, 0f, 1f, 1e-6f}
@@ -20,9 +19,9 @@ use Rattle.branch.specs.declared.QueueFull.{QueueFull}
 use Rattle.branch.specs.declared.queue.Place.{Place}
 use Rattle.branch.specs.declared.queue.Ring.{Ring}
 use Rattle.branch.specs.declared.units.Units.{Units}
-use Rattle.branch.specs.Queue.{Lies, SameOutside, place_of, floats_at, entries, pop_def, PushedTo}
+use Rattle.branch.specs.Queue.{Lies, SameOutside, place_of, floats_at, entries, PushedTo}
 use Rattle.branch.specs.Units.{none, unit, open_of, stamp_of, grown, Waiting, Queued, with_open, close_by, close_units, open_units, due_now, unit_events}
-use Rattle.branch.specs.UnitsInWork.{unit_of, floats_of_unit, unit_at, waiting_of, no_unit, UnitsTo, grown_units, FirstOf, DueOf}
+use Rattle.branch.specs.UnitsInWork.{unit_of, floats_of_unit, unit_at, waiting_of, no_unit, UnitsTo, FirstOf, DueOf}
 use Rattle.branch.proofs.Rings.{some_is, kept, popped, count_entries, no_entries_lem, floats_local, outside_refl, push_room, push_refused, push_adds, push_lies, push_outside}
 
 -- ---- the events of a removal

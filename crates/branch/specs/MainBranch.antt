@@ -1,10 +1,10 @@
 -- `MainBranch`: the main buffer Bn, from which whole access units are removed at their decode times (H.222.0, 2.4.2.3), with the
 -- unit whose bytes still arrive; and one step of its chain. The queues are lists here; depth is how many entries each may have.
 use Rattle.std.specs.Prelude.{ℕ, ◌+◌, Bool, true, false, cond, List, [], ◌∷◌, ◌++◌, length, eqb, Float}
-use Rattle.std.specs.Float.Ieee.{lt, ne}
-use Rattle.ieee.specs.Binary64.{◌⊕◌, ◌⊖◌, -∞, +∞, 0f, 1f, 1e-6f}
+use Rattle.std.specs.Float.Ieee.{lt}
+use Rattle.ieee.specs.Binary64.{◌⊕◌, ◌⊖◌, +∞, 0f, 1f}
 use Rattle.ieee.specs.MaxMin.{max_of, min_of}
-use Rattle.events.specs.Event.{Event, overflow, underflow, delay, when}
+use Rattle.events.specs.Event.{Event, overflow, when}
 use Rattle.branch.specs.declared.Run.{Run}
 use Rattle.branch.specs.declared.AccessUnit.{AccessUnit}
 use Rattle.branch.specs.declared.Delivered.{Delivered}

@@ -1,6 +1,6 @@
 -- The access units of a branch: those that are pending, and the one whose bytes still arrive; and what their removals tell. The queue is
 -- a list here; depth is how many entries it may have.
-use Rattle.std.specs.Prelude.{ℕ, ◌+◌, Bool, true, false, cond, List, [], ◌∷◌, ◌++◌, length, eqb, Float}
+use Rattle.std.specs.Prelude.{ℕ, Bool, true, false, cond, List, [], ◌∷◌, ◌++◌, length, eqb, Float}
 use Rattle.std.specs.Float.Ieee.{lt, le, ne}
 use Rattle.std.specs.Prelude.{Option, Some, None}
 use Rattle.ieee.specs.Binary64.{◌⊕◌, ◌⊖◌, -∞, 0f, 1f, 1e-6f}

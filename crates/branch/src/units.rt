@@ -21,7 +21,7 @@ pub struct Units {
     pub max_delay_seconds: f64,
 }
 
-pub(crate) fn no_unit() -> AccessUnit
+fn no_unit() -> AccessUnit
     ensures { result ≡ no_unit }
 {
     AccessUnit {
@@ -31,14 +31,14 @@ pub(crate) fn no_unit() -> AccessUnit
     }
 }
 
-pub(crate) fn is_open(u: AccessUnit) -> bool
+fn is_open(u: AccessUnit) -> bool
     ensures { result ≡ ne u.decode_time -∞ }
 {
     u.decode_time != f64::NEG_INFINITY
 }
 
 // The unit as an entry of the ring of pending units.
-pub(crate) fn entry_of(u: AccessUnit) -> [f64; 3]
+fn entry_of(u: AccessUnit) -> [f64; 3]
     ensures { result ≡ floats_of_unit u }
 {
     [u.decode_time, u.bytes, u.first_input_time]
