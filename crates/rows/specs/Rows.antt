@@ -34,17 +34,17 @@ tb_floats t = t.rate ∷ t.virtual_done ∷ t.busy_since ∷ t.peak ∷ t.longes
 abbrev pub main_floats : MainBranch → List Float
 main_floats b =
     b.inflow.settled
-    ∷ b.open_au.decode_time
-    ∷ b.open_au.bytes
-    ∷ b.open_au.first_input_time
+    ∷ b.units.open_au.decode_time
+    ∷ b.units.open_au.bytes
+    ∷ b.units.open_au.first_input_time
     ∷ b.removed
     ∷ b.required
     ∷ b.peak
-    ∷ b.max_delay_seconds
+    ∷ b.units.max_delay_seconds
     ∷ []
 
 abbrev pub main_counts : MainBranch → List ℕ
-main_counts b = b.inflow.runs.head ∷ b.inflow.runs.count ∷ b.pending.head ∷ b.pending.count ∷ b.access_units ∷ []
+main_counts b = b.inflow.runs.head ∷ b.inflow.runs.count ∷ b.units.pending.head ∷ b.units.pending.count ∷ b.units.access_units ∷ []
 
 -- MBn and what it leaked
 abbrev pub leak_floats : Leak → List Float
@@ -114,13 +114,15 @@ abbrev pub main_at : List Float → List ℕ → ℕ → ℕ → MainBranch
 main_at l n b c =
     record {
       inflow = record { runs = record { head = get_or n (c + 0) 0; count = get_or n (c + 1) 0 }; settled = get_or l (b + 5) nan };
-      pending = record { head = get_or n (c + 2) 0; count = get_or n (c + 3) 0 };
-      open_au = record { decode_time = get_or l (b + 6) nan; bytes = get_or l (b + 7) nan; first_input_time = get_or l (b + 8) nan };
+      units = record {
+        pending = record { head = get_or n (c + 2) 0; count = get_or n (c + 3) 0 };
+        open_au = record { decode_time = get_or l (b + 6) nan; bytes = get_or l (b + 7) nan; first_input_time = get_or l (b + 8) nan };
+        access_units = get_or n (c + 4) 0;
+        max_delay_seconds = get_or l (b + 12) nan;
+      };
       removed = get_or l (b + 9) nan;
       required = get_or l (b + 10) nan;
       peak = get_or l (b + 11) nan;
-      access_units = get_or n (c + 4) 0;
-      max_delay_seconds = get_or l (b + 12) nan;
     }
 
 abbrev pub video_leak_at : List Float → List ℕ → ℕ → ℕ → Leak

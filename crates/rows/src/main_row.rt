@@ -7,6 +7,7 @@ use branch::AccessUnit;
 use branch::inflow::CumulativeIn;
 use branch::main_branch::MainBranch;
 use branch::queue::Ring;
+use branch::units::Units;
 
 // Ruled out: the branch of another chain; the two rings exchanged.
 pub fn main_of(floats: &[f64; FLOATS], counts: &[u64; COUNTS], i: usize) -> MainBranch
@@ -25,20 +26,22 @@ pub fn main_of(floats: &[f64; FLOATS], counts: &[u64; COUNTS], i: usize) -> Main
             },
             settled: floats[b + places::MAIN_SETTLED],
         },
-        pending: Ring {
-            head: counts[c + places::MAIN_PENDING_HEAD] as usize,
-            count: counts[c + places::MAIN_PENDING_COUNT] as usize,
-        },
-        open_au: AccessUnit {
-            decode_time: floats[b + places::MAIN_DECODE_TIME],
-            bytes: floats[b + places::MAIN_BYTES],
-            first_input_time: floats[b + places::MAIN_FIRST_INPUT_TIME],
+        units: Units {
+            pending: Ring {
+                head: counts[c + places::MAIN_PENDING_HEAD] as usize,
+                count: counts[c + places::MAIN_PENDING_COUNT] as usize,
+            },
+            open_au: AccessUnit {
+                decode_time: floats[b + places::MAIN_DECODE_TIME],
+                bytes: floats[b + places::MAIN_BYTES],
+                first_input_time: floats[b + places::MAIN_FIRST_INPUT_TIME],
+            },
+            access_units: counts[c + places::MAIN_ACCESS_UNITS],
+            max_delay_seconds: floats[b + places::MAIN_MAX_DELAY],
         },
         removed: floats[b + places::MAIN_REMOVED],
         required: floats[b + places::MAIN_REQUIRED],
         peak: floats[b + places::MAIN_PEAK],
-        access_units: counts[c + places::MAIN_ACCESS_UNITS],
-        max_delay_seconds: floats[b + places::MAIN_MAX_DELAY],
     }
 }
 
@@ -53,15 +56,15 @@ pub fn set_main(floats: &mut [f64; FLOATS], counts: &mut [u64; COUNTS], i: usize
     let c = 16 * i;
     counts[c + places::MAIN_RUNS_HEAD] = m.inflow.runs.head as u64;
     counts[c + places::MAIN_RUNS_COUNT] = m.inflow.runs.count as u64;
-    counts[c + places::MAIN_PENDING_HEAD] = m.pending.head as u64;
-    counts[c + places::MAIN_PENDING_COUNT] = m.pending.count as u64;
-    counts[c + places::MAIN_ACCESS_UNITS] = m.access_units;
+    counts[c + places::MAIN_PENDING_HEAD] = m.units.pending.head as u64;
+    counts[c + places::MAIN_PENDING_COUNT] = m.units.pending.count as u64;
+    counts[c + places::MAIN_ACCESS_UNITS] = m.units.access_units;
     floats[b + places::MAIN_SETTLED] = m.inflow.settled;
-    floats[b + places::MAIN_DECODE_TIME] = m.open_au.decode_time;
-    floats[b + places::MAIN_BYTES] = m.open_au.bytes;
-    floats[b + places::MAIN_FIRST_INPUT_TIME] = m.open_au.first_input_time;
+    floats[b + places::MAIN_DECODE_TIME] = m.units.open_au.decode_time;
+    floats[b + places::MAIN_BYTES] = m.units.open_au.bytes;
+    floats[b + places::MAIN_FIRST_INPUT_TIME] = m.units.open_au.first_input_time;
     floats[b + places::MAIN_REMOVED] = m.removed;
     floats[b + places::MAIN_REQUIRED] = m.required;
     floats[b + places::MAIN_PEAK] = m.peak;
-    floats[b + places::MAIN_MAX_DELAY] = m.max_delay_seconds;
+    floats[b + places::MAIN_MAX_DELAY] = m.units.max_delay_seconds;
 }
