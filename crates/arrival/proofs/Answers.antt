@@ -5,7 +5,7 @@ use lib.Ieee.{Float}
 use Rattle.error.specs.declared.Refusal.{Refusal}
 use Rattle.packet.specs.declared.TsPacket.{TsPacket}
 use Rattle.packet.specs.declared.TsError.{TsError}
-use Rattle.arrival.specs.ArrivalClock.{Built, intervals, refused, build}
+use Rattle.arrival.specs.ArrivalClock.{Built, build}
 use Rattle.arrival.specs.Samples.{samples_of}
 use Rattle.arrival.specs.Work.{holds, intervals_in}
 use Rattle.arrival.specs.Bounds.{byte_limit, AllWithin}
@@ -28,11 +28,11 @@ module _ (pcrPid depth from : ℕ) (times : List Float) (places : List ℕ) (ps 
   abbrev built : Built
   built = build depth (samples_of pcrPid ps)
 
-  pub refused_is : {r : Refusal} → answer_of depth passed.pass.build ≡ Err r → built ≡ refused r
+  pub refused_is : {r : Refusal} → answer_of depth passed.pass.build ≡ Err r → built ≡ Err r
   refused_is e = sym (pass_builds pcrPid depth from times places ps shallow room short) ∙ ap (λ (a : Result ℕ Refusal). built_by a from (building_of passed)) e
 
   module _ (n : ℕ) (e : answer_of depth passed.pass.build ≡ Ok n) where
-    pub clock_is : built ≡ intervals (intervals_in passed.times from passed.places 0 n)
+    pub clock_is : built ≡ Ok (intervals_in passed.times from passed.places 0 n)
     clock_is = sym (pass_builds pcrPid depth from times places ps shallow room short) ∙ ap (λ (a : Result ℕ Refusal). built_by a from (building_of passed)) e
 
     -- 2 to depth samples, and n intervals, one fewer

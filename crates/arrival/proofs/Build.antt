@@ -10,7 +10,7 @@ use Rattle.arrival.specs.declared.Sample.{Sample}
 use Rattle.arrival.specs.declared.Anchor.{Anchor}
 use Rattle.arrival.specs.declared.Closed.{Closed}
 use Rattle.arrival.specs.declared.ClockBuild.{ClockBuild}
-use Rattle.arrival.specs.ArrivalClock.{Built, intervals, refused, anchor_at, interval_at, stepped, restarted, step_to, rate_to, close, and_then, build_from, build}
+use Rattle.arrival.specs.ArrivalClock.{Built, anchor_at, interval_at, stepped, restarted, step_to, rate_to, close, and_then, build_from, build}
 use Rattle.arrival.specs.Work.{holds, interval_in, intervals_in}
 use Rattle.arrival.specs.Pass.{no_sample, Building, store_times, store_places, counted_with, counted, first_refusal, closed_by, in_range, take_sample, take_samples, answer_of, refusal_at, unless_refused, built_by, built_in}
 use Rattle.arrival.proofs.Cursors.{Room, holds_room, room_holds}
@@ -122,16 +122,16 @@ module _ (depth from : ℕ) where
 -- ---- samples that build
 -- intervals in front of those that are built
 abbrev prepended : List RateInterval → Built → Built
-prepended is (intervals js) = intervals (is ++ js)
-prepended is (refused r) = refused r
+prepended is (Ok js) = Ok (is ++ js)
+prepended is (Err r) = Err r
 
 prepended_nil : (b : Built) → prepended [] b ≡ b
-prepended_nil (intervals js) = refl
-prepended_nil (refused r) = refl
+prepended_nil (Ok js) = refl
+prepended_nil (Err r) = refl
 
 prepended_then : (is : List RateInterval) (i : RateInterval) (b : Built) → prepended (is ++ (i ∷ [])) b ≡ prepended is (and_then i b)
-prepended_then is i (intervals js) = ap intervals (append_assoc is (i ∷ []) js)
-prepended_then is i (refused r) = refl
+prepended_then is i (Ok js) = ap Ok (append_assoc is (i ∷ []) js)
+prepended_then is i (Err r) = refl
 
 -- the refusal of sample number n comes back from what is kept of it, its kind and n
 abbrev Kept : ℕ → Refusal → Type 0
@@ -160,7 +160,7 @@ close_follows n a s top h g = by s.marked (eqb n 1) (eqb (step_to a s) 0) (lt (r
 module _ (depth from : ℕ) where
   -- number 8, then 5, then what is built
   abbrev outcome : ℕ → Built → Built
-  outcome n b = cond (ltb depth n) (refused (Refusal.ClockFull depth)) (cond (ltb n 2) (refused Refusal.TooFewPcrs) b)
+  outcome n b = cond (ltb depth n) (Err (Refusal.ClockFull depth)) (cond (ltb n 2) (Err Refusal.TooFewPcrs) b)
 
   built_is : (w : Building) → built_in depth from w ≡ outcome w.build.samples (built_by (unless_refused w.build.refusal w.build.refused_sample (w.build.samples - 1)) from w)
   unfolding answer_of
@@ -168,7 +168,7 @@ module _ (depth from : ℕ) where
     where
       by : (t u : Bool)
           → built_by (cond t (Err (Refusal.ClockFull depth)) (cond u (Err Refusal.TooFewPcrs) (unless_refused w.build.refusal w.build.refused_sample (w.build.samples - 1)))) from w
-          ≡ cond t (refused (Refusal.ClockFull depth)) (cond u (refused Refusal.TooFewPcrs) (built_by (unless_refused w.build.refusal w.build.refused_sample (w.build.samples - 1)) from w))
+          ≡ cond t (Err (Refusal.ClockFull depth)) (cond u (Err Refusal.TooFewPcrs) (built_by (unless_refused w.build.refusal w.build.refused_sample (w.build.samples - 1)) from w))
       by true u = refl
       by false true = refl
       by false false = refl

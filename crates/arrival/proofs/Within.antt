@@ -18,7 +18,7 @@ use Rattle.arrival.specs.declared.RateInterval.{RateInterval}
 use Rattle.arrival.specs.declared.Sample.{Sample}
 use Rattle.arrival.specs.declared.Anchor.{Anchor}
 use Rattle.arrival.specs.declared.Closed.{Closed}
-use Rattle.arrival.specs.ArrivalClock.{float, anchor_at, interval_at, step_to, rate_to, stepped, restarted, close, Built, intervals, refused, and_then, behind, build_from, build_all, build}
+use Rattle.arrival.specs.ArrivalClock.{float, anchor_at, interval_at, step_to, rate_to, stepped, restarted, close, Built, and_then, behind, build_from, build_all, build}
 use Rattle.arrival.specs.Times.{advance_to, first, covering, time_of}
 use Rattle.arrival.specs.Samples.{field_on, seen_pcr, seen_in, samples_from, samples_of}
 use Rattle.arrival.specs.Bounds.{byte_limit, raw_limit, unit, units_of, arrival_limit, InOrder, IntervalWithin, AllWithin}
@@ -112,12 +112,12 @@ module _ (n : ℕ) (a : Anchor) (s : Sample) (w : AnchorWithin a) (order : a.pos
 
 -- ---- a clock
 abbrev pub BuiltWithin : Built → Type 0
-BuiltWithin (intervals is) = AllWithin is
-BuiltWithin (refused r) = Unit {0}
+BuiltWithin (Ok is) = AllWithin is
+BuiltWithin (Err r) = Unit {0}
 
 then_within : (i : RateInterval) (b : Built) → IntervalWithin i → BuiltWithin b → BuiltWithin (and_then i b)
-then_within i (intervals is) w h = (w, h)
-then_within i (refused r) w h = tt
+then_within i (Ok is) w h = (w, h)
+then_within i (Err r) w h = tt
 
 in_order_end : (before : ℕ) (ss : List Sample) → InOrder before ss → before ≤ byte_limit
 in_order_end before [] o = o
@@ -216,12 +216,12 @@ module _ (i : RateInterval) (p : ℕ) (w : IntervalWithin i) (l : p ≤ byte_lim
 
 -- ---- how many intervals
 abbrev Counts : ℕ → Built → Type 0
-Counts n (intervals is) = length is ≡ n
-Counts n (refused r) = Unit {0}
+Counts n (Ok is) = length is ≡ n
+Counts n (Err r) = Unit {0}
 
 then_counts : (n : ℕ) (i : RateInterval) (b : Built) → Counts n b → Counts (suc n) (and_then i b)
-then_counts n i (intervals is) e = ap suc e
-then_counts n i (refused r) e = tt
+then_counts n i (Ok is) e = ap suc e
+then_counts n i (Err r) e = tt
 
 behind_counts : (n : ℕ) (x : Result Closed Refusal) (rest : Anchor → Built) → ((a : Anchor) → Counts n (rest a)) → Counts (suc n) (behind x rest)
 behind_counts n (Ok c) rest h = then_counts n c.interval (rest c.anchor) (h c.anchor)
@@ -238,15 +238,15 @@ pub record Counted (depth samples count : ℕ) : Type 0 where
   pub two : 2 ≤ samples
   pub one_fewer : count + 1 ≡ samples
 
-pub build_counted : (depth : ℕ) (ss : List Sample) (is : List RateInterval) → build depth ss ≡ intervals is → Counted depth (length ss) (length is)
+pub build_counted : (depth : ℕ) (ss : List Sample) (is : List RateInterval) → build depth ss ≡ Ok is → Counted depth (length ss) (length is)
 unfolding build
 build_counted depth ss is e = by (ltb depth (length ss)) refl (ltb (length ss) 2) refl ss refl e
   where
-    unlike : {r : Refusal} → refused r ≡ intervals is → ⊥
+    unlike : {r : Refusal} → Err r ≡ Ok is → ⊥
     unlike q = let z : ◌≡◌ {A = ℕ} 0 1 = cc in omega arith
 
     by : (t : Bool) → ltb depth (length ss) ≡ t → (u : Bool) → ltb (length ss) 2 ≡ u → (xs : List Sample) → ss ≡ xs
-        → cond t (refused (Refusal.ClockFull depth)) (cond u (refused Refusal.TooFewPcrs) (build_all xs)) ≡ intervals is
+        → cond t (Err (Refusal.ClockFull depth)) (cond u (Err Refusal.TooFewPcrs) (build_all xs)) ≡ Ok is
         → Counted depth (length ss) (length is)
     by true g u h xs o q = absurd (unlike q)
     by false g true h xs o q = absurd (unlike q)

@@ -58,30 +58,29 @@ close n a s =
     (cond (lt (rate_to a s) 1000f || lt 1000000000f (rate_to a s)) (Err (Refusal.RateOutsideLimits n))
     (Ok (record { interval = interval_at a (rate_to a s); anchor = stepped a s }))))
 
-pub data Built : Type 0 where
-  intervals : List RateInterval → Built
-  refused : Refusal → Built
+abbrev pub Built : Type 0
+Built = Result (List RateInterval) Refusal
 
 abbrev pub and_then : RateInterval → Built → Built
-and_then i (intervals is) = intervals (i ∷ is)
-and_then i (refused r) = refused r
+and_then i (Ok is) = Ok (i ∷ is)
+and_then i (Err r) = Err r
 
 abbrev pub behind : Result Closed Refusal → (Anchor → Built) → Built
 behind (Ok c) rest = and_then c.interval (rest c.anchor)
-behind (Err r) rest = refused r
+behind (Err r) rest = Err r
 
 -- the samples from number n on
 unfoldable pub build_from : ℕ → Anchor → List Sample → Built
-build_from n a [] = intervals []
+build_from n a [] = Ok []
 build_from n a (s ∷ ss) = behind (close n a s) (λ b. build_from (n + 1) b ss)
 
 abbrev pub build_all : List Sample → Built
-build_all [] = intervals []
+build_all [] = Ok []
 build_all (s ∷ ss) = build_from 1 (anchor_at s) ss
 
 -- more samples than the clock depth (number 8), then fewer than two (5), then sample by sample
 unfoldable pub build : ℕ → List Sample → Built
 build depth ss =
-    cond (nat_lt depth (length ss)) (refused (Refusal.ClockFull depth))
-    (cond (nat_lt (length ss) 2) (refused Refusal.TooFewPcrs)
+    cond (nat_lt depth (length ss)) (Err (Refusal.ClockFull depth))
+    (cond (nat_lt (length ss) 2) (Err Refusal.TooFewPcrs)
     (build_all ss))

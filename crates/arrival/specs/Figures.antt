@@ -1,10 +1,10 @@
 -- Document 01's figures for the arrival clock: two samples, at bytes 10 and 386, by the step between them.
-use Rattle.std.specs.Prelude.{ℕ, Bool, true, false, ◌&&◌, List, [], ◌∷◌, ◌==◌, from_bits, Float}
+use Rattle.std.specs.Prelude.{ℕ, Bool, true, false, ◌&&◌, List, [], ◌∷◌, ◌==◌, from_bits, Float, Ok, Err}
 use Rattle.std.specs.Float.{binary64}
 use Rattle.std.specs.Float.Ieee.{eq}
 use Rattle.error.specs.Code.{code_of}
 use Rattle.arrival.specs.declared.Sample.{Sample}
-use Rattle.arrival.specs.ArrivalClock.{Built, intervals, refused, build}
+use Rattle.arrival.specs.ArrivalClock.{Built, build}
 use Rattle.arrival.specs.Times.{arrival_at, rate_at}
 
 -- accepted with a rate and the time of byte 386, or refused with a number and a place; not a Result of pairs, whose parts have no names
@@ -29,10 +29,10 @@ two_samples step =
     ∷ []
 
 abbrev pub answers : Answer → Built → Bool
-answers (accepted rate time) (intervals is) = eq (rate_at is 386) rate && eq (arrival_at is 386) time
-answers (accepted rate time) (refused r) = false
-answers (refused_with number place) (intervals is) = false
-answers (refused_with number place) (refused r) = (code_of r).number == number && (code_of r).place == place
+answers (accepted rate time) (Ok is) = eq (rate_at is 386) rate && eq (arrival_at is 386) time
+answers (accepted rate time) (Err r) = false
+answers (refused_with number place) (Ok is) = false
+answers (refused_with number place) (Err r) = (code_of r).number == number && (code_of r).place == place
 
 unfoldable pub all_hold : List Row → Bool
 all_hold [] = true

@@ -13,7 +13,7 @@ use Rattle.arrival.specs.declared.Closed.{Closed}
 use Rattle.arrival.specs.declared.ClockFault.{ClockFault}
 use Rattle.arrival.specs.declared.ClockBuild.{ClockBuild}
 use Rattle.arrival.specs.declared.ClockPass.{ClockPass}
-use Rattle.arrival.specs.ArrivalClock.{Built, intervals, refused, anchor_at, close}
+use Rattle.arrival.specs.ArrivalClock.{Built, anchor_at, close}
 use Rattle.arrival.specs.Samples.{Seen, field_on, seen_pcr, seen_in}
 use Rattle.arrival.specs.Work.{holds, intervals_in, never}
 
@@ -105,8 +105,8 @@ answer_of depth b =
 
 -- what a building has come to: the intervals that stand in the work, or a refusal
 abbrev pub built_by : Result ℕ Refusal → ℕ → Building → Built
-built_by (Ok n) from w = intervals (intervals_in w.times from w.places 0 n)
-built_by (Err r) from w = refused r
+built_by (Ok n) from w = Ok (intervals_in w.times from w.places 0 n)
+built_by (Err r) from w = Err r
 
 abbrev pub built_in : ℕ → ℕ → Building → Built
 built_in depth from w = built_by (answer_of depth w.build) from w

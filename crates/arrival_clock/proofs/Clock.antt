@@ -11,7 +11,7 @@ use Rattle.error.specs.declared.Refusal.{Refusal}
 use Rattle.packet.specs.declared.TsPacket.{TsPacket}
 use Rattle.packet.specs.declared.TsError.{TsError}
 use Rattle.packet.specs.declared.TsPacketLayout.{TsPacketLayout}
-use Rattle.arrival.specs.ArrivalClock.{intervals, refused, build}
+use Rattle.arrival.specs.ArrivalClock.{build}
 use Rattle.arrival.specs.Samples.{samples_of}
 use Rattle.arrival.specs.Work.{holds, intervals_in}
 use Rattle.arrival.specs.Bounds.{byte_limit, AllWithin}
@@ -40,11 +40,11 @@ module _ (y : TsPacketLayout) (l : List ℕ) (count pcrPid depth : ℕ) (times :
     shorter : 188 * length ps < 2 ^ 63
     shorter = rw (parses_length y l 0 count) short
 
-    pub build_refused : {r : Refusal} → answer ≡ Err r → build depth (samples_of pcrPid ps) ≡ refused r
+    pub build_refused : {r : Refusal} → answer ≡ Err r → build depth (samples_of pcrPid ps) ≡ Err r
     build_refused e = answers.refused_is pcrPid depth from times places ps shallow room shorter (sym is.answer_is ∙ e)
 
     module _ (n : ℕ) (e : answer ≡ Ok n) where
-      pub build_intervals : build depth (samples_of pcrPid ps) ≡ intervals (intervals_in times' from places' 0 n)
+      pub build_intervals : build depth (samples_of pcrPid ps) ≡ Ok (intervals_in times' from places' 0 n)
       build_intervals =
           rw (is.times_are, is.places_are) (answers.clock_is pcrPid depth from times places ps shallow room shorter n (sym is.answer_is ∙ e))
 

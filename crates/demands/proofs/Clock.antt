@@ -15,7 +15,7 @@ use Rattle.arrival.specs.declared.RateInterval.{RateInterval}
 use Rattle.arrival.specs.declared.Sample.{Sample}
 use Rattle.arrival.specs.declared.Anchor.{Anchor}
 use Rattle.arrival.specs.declared.Closed.{Closed}
-use Rattle.arrival.specs.ArrivalClock.{Built, intervals, refused, and_then, behind, interval_at, stepped, restarted, anchor_at, step_to, rate_to, close, build_from, build_all, build}
+use Rattle.arrival.specs.ArrivalClock.{Built, and_then, behind, interval_at, stepped, restarted, anchor_at, step_to, rate_to, close, build_from, build_all, build}
 use Rattle.demands.specs.Refused.{Reaches, here, later, Comes, comes, MarkBeforeRate, NoStep, BadRate, SampleIs}
 
 -- ---- one sample
@@ -55,10 +55,10 @@ module _ (n : ℕ) (a : Anchor) (s : Sample) where
 
 -- ---- the samples behind the first
 data FromWay (n : ℕ) (a : Anchor) (ss : List Sample) : Built → Type 0 where
-  mark : {m : ℕ} {b : Anchor} {s : Sample} → Reaches n a ss m b s → MarkBeforeRate m s → FromWay n a ss (refused (Refusal.DiscontinuityBeforeRate m))
-  no_step : {m : ℕ} {b : Anchor} {s : Sample} → Reaches n a ss m b s → NoStep b s → FromWay n a ss (refused (Refusal.RepeatedPcr m))
-  bad_rate : {m : ℕ} {b : Anchor} {s : Sample} → Reaches n a ss m b s → BadRate b s → FromWay n a ss (refused (Refusal.RateOutsideLimits m))
-  built : (is : List RateInterval) → FromWay n a ss (intervals is)
+  mark : {m : ℕ} {b : Anchor} {s : Sample} → Reaches n a ss m b s → MarkBeforeRate m s → FromWay n a ss (Err (Refusal.DiscontinuityBeforeRate m))
+  no_step : {m : ℕ} {b : Anchor} {s : Sample} → Reaches n a ss m b s → NoStep b s → FromWay n a ss (Err (Refusal.RepeatedPcr m))
+  bad_rate : {m : ℕ} {b : Anchor} {s : Sample} → Reaches n a ss m b s → BadRate b s → FromWay n a ss (Err (Refusal.RateOutsideLimits m))
+  built : (is : List RateInterval) → FromWay n a ss (Ok is)
 
 then_way : {n : ℕ} {a b : Anchor} {s : Sample} {ss : List Sample} (i : RateInterval) → close n a s ≡ Ok (record { interval = i; anchor = b })
     → {x : Built} → FromWay (n + 1) b ss x → FromWay n a (s ∷ ss) (and_then i x)
@@ -78,22 +78,22 @@ from_way (s ∷ ss) n a = by (λ b. from_way ss (n + 1) b) (close n a s) refl (c
     by again x e (CloseWay.bad_rate h) = FromWay.bad_rate here h
     by again x e (CloseWay.closes i b) = then_way i e (again b)
 
-reaches_refused : {n m : ℕ} {a b : Anchor} {s : Sample} {ss : List Sample} {r : Refusal} → Reaches n a ss m b s → close m b s ≡ Err r → build_from n a ss ≡ refused r
+reaches_refused : {n m : ℕ} {a b : Anchor} {s : Sample} {ss : List Sample} {r : Refusal} → Reaches n a ss m b s → close m b s ≡ Err r → build_from n a ss ≡ Err r
 unfolding build_from
 reaches_refused here e = rw e
 reaches_refused (later i f h) e = rw f (ap (and_then i) (reaches_refused h e))
 
-comes_refused : {n : ℕ} {a : Anchor} {s : Sample} {ss : List Sample} {r : Refusal} → Comes ss n a s → close n a s ≡ Err r → build_all ss ≡ refused r
+comes_refused : {n : ℕ} {a : Anchor} {s : Sample} {ss : List Sample} {r : Refusal} → Comes ss n a s → close n a s ≡ Err r → build_all ss ≡ Err r
 comes_refused (comes h) e = reaches_refused h e
 
 -- ---- all of them
 pub data ClockWay (depth : ℕ) (ss : List Sample) : Built → Type 0 where
-  full_clock : depth < length ss → ClockWay depth ss (refused (Refusal.ClockFull depth))
-  few : length ss < 2 → ClockWay depth ss (refused Refusal.TooFewPcrs)
-  mark : {n : ℕ} → 2 ≤ length ss → length ss ≤ depth → SampleIs (λ (a : Anchor) (s : Sample). MarkBeforeRate n s) ss n → ClockWay depth ss (refused (Refusal.DiscontinuityBeforeRate n))
-  no_step : {n : ℕ} → 2 ≤ length ss → length ss ≤ depth → SampleIs NoStep ss n → ClockWay depth ss (refused (Refusal.RepeatedPcr n))
-  bad_rate : {n : ℕ} → 2 ≤ length ss → length ss ≤ depth → SampleIs BadRate ss n → ClockWay depth ss (refused (Refusal.RateOutsideLimits n))
-  built : (is : List RateInterval) → ClockWay depth ss (intervals is)
+  full_clock : depth < length ss → ClockWay depth ss (Err (Refusal.ClockFull depth))
+  few : length ss < 2 → ClockWay depth ss (Err Refusal.TooFewPcrs)
+  mark : {n : ℕ} → 2 ≤ length ss → length ss ≤ depth → SampleIs (λ (a : Anchor) (s : Sample). MarkBeforeRate n s) ss n → ClockWay depth ss (Err (Refusal.DiscontinuityBeforeRate n))
+  no_step : {n : ℕ} → 2 ≤ length ss → length ss ≤ depth → SampleIs NoStep ss n → ClockWay depth ss (Err (Refusal.RepeatedPcr n))
+  bad_rate : {n : ℕ} → 2 ≤ length ss → length ss ≤ depth → SampleIs BadRate ss n → ClockWay depth ss (Err (Refusal.RateOutsideLimits n))
+  built : (is : List RateInterval) → ClockWay depth ss (Ok is)
 
 pub clock_way : (depth : ℕ) (ss : List Sample) → ClockWay depth ss (build depth ss)
 unfolding build
@@ -109,18 +109,18 @@ clock_way depth ss = by (ltb depth (length ss)) refl (ltb (length ss) 2) refl
         some (FromWay.bad_rate r m) = ClockWay.bad_rate h k (record { anchor = _; sample = _; before = comes r; holds = m })
         some (FromWay.built is) = ClockWay.built is
 
-    by : (t : Bool) → ltb depth (length ss) ≡ t → (u : Bool) → ltb (length ss) 2 ≡ u → ClockWay depth ss (cond t (refused (Refusal.ClockFull depth)) (cond u (refused Refusal.TooFewPcrs) (build_all ss)))
+    by : (t : Bool) → ltb depth (length ss) ≡ t → (u : Bool) → ltb (length ss) 2 ≡ u → ClockWay depth ss (cond t (Err (Refusal.ClockFull depth)) (cond u (Err Refusal.TooFewPcrs) (build_all ss)))
     by true g u h = full_clock (ltb-true depth (length ss) g)
     by false g true h = few (ltb-true (length ss) 2 h)
     by false g false h = all ss (ltb-false (length ss) 2 h) (ltb-false depth (length ss) g)
 
 -- ---- and back
 module _ (depth : ℕ) (ss : List Sample) where
-  pub build_full : depth < length ss → build depth ss ≡ refused (Refusal.ClockFull depth)
+  pub build_full : depth < length ss → build depth ss ≡ Err (Refusal.ClockFull depth)
   unfolding build
   build_full h = rw (lt-ltb depth (length ss) h)
 
-  pub build_few : 2 ≤ depth → length ss < 2 → build depth ss ≡ refused Refusal.TooFewPcrs
+  pub build_few : 2 ≤ depth → length ss < 2 → build depth ss ≡ Err Refusal.TooFewPcrs
   unfolding build
   build_few d h =
       let e : length ss ≤ depth = omega arith in
@@ -131,11 +131,11 @@ module _ (depth : ℕ) (ss : List Sample) where
     unfolding build
     sampled = rw (le-ltb depth (length ss) most, le-ltb (length ss) 2 two)
 
-    pub build_mark : (n : ℕ) → SampleIs (λ (a : Anchor) (s : Sample). MarkBeforeRate n s) ss n → build depth ss ≡ refused (Refusal.DiscontinuityBeforeRate n)
+    pub build_mark : (n : ℕ) → SampleIs (λ (a : Anchor) (s : Sample). MarkBeforeRate n s) ss n → build depth ss ≡ Err (Refusal.DiscontinuityBeforeRate n)
     build_mark n h = sampled ∙ comes_refused h.before (close_mark n h.anchor h.sample h.holds)
 
-    pub build_no_step : (n : ℕ) → SampleIs NoStep ss n → build depth ss ≡ refused (Refusal.RepeatedPcr n)
+    pub build_no_step : (n : ℕ) → SampleIs NoStep ss n → build depth ss ≡ Err (Refusal.RepeatedPcr n)
     build_no_step n h = sampled ∙ comes_refused h.before (close_no_step n h.anchor h.sample h.holds)
 
-    pub build_bad_rate : (n : ℕ) → SampleIs BadRate ss n → build depth ss ≡ refused (Refusal.RateOutsideLimits n)
+    pub build_bad_rate : (n : ℕ) → SampleIs BadRate ss n → build depth ss ≡ Err (Refusal.RateOutsideLimits n)
     build_bad_rate n h = sampled ∙ comes_refused h.before (close_bad_rate n h.anchor h.sample h.holds)

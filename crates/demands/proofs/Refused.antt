@@ -1,4 +1,5 @@
 -- Each refusal comes exactly under its condition, number by number; and a replay is accepted exactly where it runs to its end. Assumes nothing.
+use Rattle.std.specs.Prelude.{Err}
 use Prim.Native.Nat.{ℕ}
 use mathlib.Core.Path.{◌≡◌, refl, sym, ap, ◌∙◌, subst}
 use mathlib.Core.Logic.{◌↔◌}
@@ -6,7 +7,7 @@ use mathlib.Core.Bool.{false}
 use mathlib.Core.List.{List}
 use lib.ListN.{length}
 use Rattle.error.specs.declared.Refusal.{Refusal}
-use Rattle.arrival.specs.ArrivalClock.{refused, build}
+use Rattle.arrival.specs.ArrivalClock.{build}
 use Rattle.report.specs.declared.TStdReport.{TStdReport}
 use Rattle.report.specs.declared.TStdChainStats.{TStdChainStats}
 use Rattle.profile.specs.declared.config.TStdConfig.{TStdConfig}
@@ -32,7 +33,7 @@ module _ (limits : Limits) (c : TStdConfig) (room : WorkSize) (l : List ℕ) whe
   to_way o e = subst W e (way limits c room l)
 
   -- by what the clock's building refuses
-  by_clock : LaidOut limits c room l → (x : Refusal) → build c.clock_depth (samples_in c l) ≡ refused x → answer limits c room l ≡ refused_with x
+  by_clock : LaidOut limits c room l → (x : Refusal) → build c.clock_depth (samples_in c l) ≡ Err x → answer limits c room l ≡ refused_with x
   unfolding with_clock
   by_clock h x e = laid_out_answer limits c room l h ∙ ap (with_clock c (read_in c l)) e
 

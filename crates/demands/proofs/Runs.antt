@@ -1,4 +1,5 @@
 -- The bounds of the state behind any run of packets, and behind any run of the streams' ends. Assumes nothing.
+use Rattle.std.specs.Prelude.{Ok}
 use Prim.Native.Nat.{ℕ, ◌+◌, ◌*◌, ◌^◌, ◌<◌, ◌≤◌}
 use native.Mathlib.Omega.{arith}
 use mathlib.Core.Path.{◌≡◌, subst}
@@ -8,7 +9,7 @@ use Rattle.recording.specs.Read.{Fact, parse_in}
 use Rattle.recording.proofs.Bounds.{FactsHold, read_holds}
 use Rattle.arrival.specs.declared.RateInterval.{RateInterval}
 use Rattle.arrival.specs.Bounds.{AllWithin}
-use Rattle.arrival.specs.ArrivalClock.{intervals, build}
+use Rattle.arrival.specs.ArrivalClock.{build}
 use Rattle.arrival.proofs.Within.{BuiltWithin, clock_within, build_counted}
 use Rattle.packet.specs.Layout.{layout_of}
 use Rattle.profile.specs.declared.config.TStdStream.{TStdStream}
@@ -46,10 +47,10 @@ module _ (c : TStdConfig) (room : WorkSize) (l : List ℕ) (h : LaidOut replay_l
       let r = read_holds (streams_read c) l in
       record { facts = r.facts; fit = omega (arith, r.fit, read_size (streams_read c) l (layout_of l), h.fit.short) }
 
-  pub clock_holds : (clock : List RateInterval) → build c.clock_depth (samples_in c l) ≡ intervals clock → ClockHolds clock
+  pub clock_holds : (clock : List RateInterval) → build c.clock_depth (samples_in c l) ≡ Ok clock → ClockHolds clock
   clock_holds clock e =
       let n : 188 * length (map parse_in (read_in c l).facts) ≤ 2 ^ 24 = rw (length-map (read_in c l).facts parse_in) (omega (arith, read_fits.fit)) in
-      let a : BuiltWithin (intervals clock) = subst BuiltWithin e (clock_within c.pcr_pid c.clock_depth (map parse_in (read_in c l).facts) n) in
+      let a : BuiltWithin (Ok clock) = subst BuiltWithin e (clock_within c.pcr_pid c.clock_depth (map parse_in (read_in c l).facts) n) in
       let d = build_counted c.clock_depth (samples_in c l) clock e in
       record { all = a; some = omega (arith, d.one_fewer, d.two) }
 

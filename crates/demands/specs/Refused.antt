@@ -11,7 +11,7 @@ use Rattle.recording.specs.Read.{Fact, parsed, Read, read_of}
 use Rattle.arrival.specs.declared.RateInterval.{RateInterval}
 use Rattle.arrival.specs.declared.Sample.{Sample}
 use Rattle.arrival.specs.declared.Anchor.{Anchor}
-use Rattle.arrival.specs.ArrivalClock.{intervals, anchor_at, step_to, rate_to, close, build}
+use Rattle.arrival.specs.ArrivalClock.{anchor_at, step_to, rate_to, close, build}
 use Rattle.arrival.specs.Times.{covering, arrival_at}
 use Rattle.profile.specs.declared.config.TStdStream.{TStdStream}
 use Rattle.profile.specs.declared.config.TStdConfig.{TStdConfig}
@@ -96,7 +96,7 @@ pub record SampleIs (P : Anchor → Sample → Type 0) (ss : List Sample) (n : �
 pub record Clocked (limits : Limits) (c : TStdConfig) (room : WorkSize) (l : List ℕ) : Type 0 where
   pub laid_out : LaidOut limits c room l
   pub clock : List RateInterval
-  pub built : build c.clock_depth (samples_in c l) ≡ intervals clock
+  pub built : build c.clock_depth (samples_in c l) ≡ Ok clock
 
 -- the packets from number k on run, and meet no full queue, up to packet m, which is the first of the packets gs
 pub data RunsTo (c : TStdConfig) (clock : List RateInterval) : ℕ → List Fact → State → ℕ → List Fact → State → Type 0 where

@@ -9,7 +9,7 @@ use Rattle.packet.specs.declared.TsPacketLayout.{TsPacketLayout}
 use Rattle.packet.specs.Layout.{layout_of}
 use Rattle.recording.specs.Read.{Streams, Fact, read_at, read_by, read_of}
 use Rattle.arrival.specs.declared.RateInterval.{RateInterval}
-use Rattle.arrival.specs.ArrivalClock.{Built, intervals, refused, build}
+use Rattle.arrival.specs.ArrivalClock.{Built, build}
 use Rattle.report.specs.declared.TStdReport.{TStdReport}
 use Rattle.report.specs.declared.TStdChainStats.{TStdChainStats}
 use Rattle.profile.specs.Config.{streams_of}
@@ -37,7 +37,7 @@ module _ (limits : Limits) (c : TStdConfig) (room needed : WorkSize) (l : List �
   layout_refusal e = rw (e, fit)
 
   pub clock_refusal : (y : TsPacketLayout) (x : Refusal) → layout_of l ≡ Some y
-      → build c.clock_depth (samples_read c (read_at y (streams_read c) l)) ≡ refused x
+      → build c.clock_depth (samples_read c (read_at y (streams_read c) l)) ≡ Err x
       → replay limits c room (read_of (streams_read c) l) ≡ refused_with x
   unfolding replay with_check with_layout with_clock read_by read_at
   clock_refusal y x e b = rw (e, fit, b)
@@ -51,7 +51,7 @@ pub data Cause (limits : Limits) (c : TStdConfig) (room : WorkSize) (l : List �
   by_check : check_of limits c room (length l) ≡ Err x → Cause limits c room l x
   by_layout : layout_of l ≡ None → x ≡ Refusal.NoPacketLayout → Cause limits c room l x
   by_clock : (y : TsPacketLayout) → layout_of l ≡ Some y
-      → build c.clock_depth (samples_read c (read_at y (streams_read c) l)) ≡ refused x → Cause limits c room l x
+      → build c.clock_depth (samples_read c (read_at y (streams_read c) l)) ≡ Err x → Cause limits c room l x
   by_queue : QueueRefusal x → Cause limits c room l x
 
 same_refusal : {x y : Refusal} → refused_with x ≡ refused_with y → x ≡ y
@@ -75,8 +75,8 @@ module _ (limits : Limits) (c : TStdConfig) (room : WorkSize) (l : List ℕ) (x 
   cause_clock : (y : TsPacketLayout) → layout_of l ≡ Some y → (b : Built) → build c.clock_depth (samples_read c (read_at y (streams_read c) l)) ≡ b
       → with_clock c (read_at y (streams_read c) l) b ≡ refused_with x → Cause limits c room l x
   unfolding with_clock
-  cause_clock y d (refused z) e h = by_clock y d (e ∙ ap refused (same_refusal h))
-  cause_clock y d (intervals clock) e h = by_queue (queue_only c clock _ 0 _ _ x h)
+  cause_clock y d (Err z) e h = by_clock y d (e ∙ ap Err (same_refusal h))
+  cause_clock y d (Ok clock) e h = by_queue (queue_only c clock _ 0 _ _ x h)
 
   cause_layout : (d : Option TsPacketLayout) → layout_of l ≡ d → with_layout c (read_by d (streams_read c) l) (read_by d (streams_read c) l).layout ≡ refused_with x
       → Cause limits c room l x

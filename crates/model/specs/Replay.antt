@@ -10,7 +10,7 @@ use Rattle.scanner.specs.declared.Runs.{Runs}
 use Rattle.recording.specs.Read.{Streams, Fact, unparsed, parsed, parse_in, Read}
 use Rattle.arrival.specs.declared.RateInterval.{RateInterval}
 use Rattle.arrival.specs.declared.Sample.{Sample}
-use Rattle.arrival.specs.ArrivalClock.{Built, intervals, refused, build}
+use Rattle.arrival.specs.ArrivalClock.{Built, build}
 use Rattle.arrival.specs.Samples.{samples_of}
 use Rattle.arrival.specs.Times.{covering, arrival_at}
 use Rattle.fifo.specs.declared.FluidFifo.{FluidFifo}
@@ -203,8 +203,8 @@ abbrev pub samples_read : TStdConfig → Read → List Sample
 samples_read c r = samples_of c.pcr_pid (map parse_in r.facts)
 
 unfoldable pub with_clock : TStdConfig → Read → Built → Outcome
-with_clock c r (refused x) = refused_with x
-with_clock c r (intervals clock) = replay_from c clock (length (samples_read c r)) 0 r.facts (started c)
+with_clock c r (Err x) = refused_with x
+with_clock c r (Ok clock) = replay_from c clock (length (samples_read c r)) 0 r.facts (started c)
 
 unfoldable pub with_layout : TStdConfig → Read → Option TsPacketLayout → Outcome
 with_layout c r None = refused_with Refusal.NoPacketLayout
