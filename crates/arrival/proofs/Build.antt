@@ -31,51 +31,51 @@ module _ {A : Type 0} (l : List A) (p : ℕ) (a b d : A) where
   pair_other q g = get_or-set_other (set l p a) (p + 1) q b d (λ e. omega arith) ∙ get_or-set_other l p q a d (λ e. omega arith)
 
 -- ---- an interval stored behind those that stand
-module _ (times : List Float) (from : ℕ) (places : List ℕ) (k : ℕ) (i : RateInterval) where
+module _ (times : List Float) (places : List ℕ) (k : ℕ) (i : RateInterval) where
   abbrev times' : List Float
-  times' = store_times times from k i
+  times' = store_times times k i
 
   abbrev places' : List ℕ
   places' = store_places places k i
 
-  store_room : (depth : ℕ) → Room depth times from places → Room depth times' from places'
+  store_room : (depth : ℕ) → Room depth times places → Room depth times' places'
   unfolding store_times store_places
   store_room depth r = record { of_times = simp length-set r.of_times; of_places = simp length-set r.of_places }
 
   abbrev two : List Float
-  two = pair times (from + 3 * k) i.start_time i.rate nan
+  two = pair times (3 * k) i.start_time i.rate nan
 
-  time_before : (q : ℕ) → q < from + 3 * k + 2 → get_or (set two (from + 3 * k + 2) i.pts_offset) q nan ≡ get_or two q nan
-  time_before q h = get_or-set_other two (from + 3 * k + 2) q i.pts_offset nan (λ e. omega arith)
+  time_before : (q : ℕ) → q < 3 * k + 2 → get_or (set two (3 * k + 2) i.pts_offset) q nan ≡ get_or two q nan
+  time_before q h = get_or-set_other two (3 * k + 2) q i.pts_offset nan (λ e. omega arith)
 
-  module _ (t : from + 3 * k + 2 < length times) (p : 2 * k + 1 < length places) where
-    stored_last : interval_in times' from places' k ≡ i
+  module _ (t : 3 * k + 2 < length times) (p : 2 * k + 1 < length places) where
+    stored_last : interval_in times' places' k ≡ i
     unfolding interval_in store_times store_places
     stored_last =
         rw (
-          time_before (from + 3 * k) (omega arith),
-          pair_first times (from + 3 * k) i.start_time i.rate nan (omega arith),
-          time_before (from + 3 * k + 1) (omega arith),
-          pair_second times (from + 3 * k) i.start_time i.rate nan (omega arith),
-          get_or-set_same two (from + 3 * k + 2) i.pts_offset nan (simp length-set t),
+          time_before (3 * k) (omega arith),
+          pair_first times (3 * k) i.start_time i.rate nan (omega arith),
+          time_before (3 * k + 1) (omega arith),
+          pair_second times (3 * k) i.start_time i.rate nan (omega arith),
+          get_or-set_same two (3 * k + 2) i.pts_offset nan (simp length-set t),
           pair_first places (2 * k) i.start_pos i.pcr_ref_90k 0 p,
           pair_second places (2 * k) i.start_pos i.pcr_ref_90k 0 p,
         )
 
-    time_kept : (q : ℕ) → q < from + 3 * k → get_or times' q nan ≡ get_or times q nan
+    time_kept : (q : ℕ) → q < 3 * k → get_or times' q nan ≡ get_or times q nan
     unfolding store_times
-    time_kept q h = time_before q (omega arith) ∙ pair_other times (from + 3 * k) i.start_time i.rate nan q h
+    time_kept q h = time_before q (omega arith) ∙ pair_other times (3 * k) i.start_time i.rate nan q h
 
     place_kept : (q : ℕ) → q < 2 * k → get_or places' q 0 ≡ get_or places q 0
     unfolding store_places
     place_kept q h = pair_other places (2 * k) i.start_pos i.pcr_ref_90k 0 q h
 
-    stored_other : (j : ℕ) → j < k → interval_in times' from places' j ≡ interval_in times from places j
+    stored_other : (j : ℕ) → j < k → interval_in times' places' j ≡ interval_in times places j
     unfolding interval_in
     stored_other j h =
-        rw (time_kept (from + 3 * j) (omega arith), time_kept (from + 3 * j + 1) (omega arith), time_kept (from + 3 * j + 2) (omega arith), place_kept (2 * j) (omega arith), place_kept (2 * j + 1) (omega arith))
+        rw (time_kept (3 * j) (omega arith), time_kept (3 * j + 1) (omega arith), time_kept (3 * j + 2) (omega arith), place_kept (2 * j) (omega arith), place_kept (2 * j + 1) (omega arith))
 
-    pub store_adds : (m j : ℕ) → j + m ≡ k → intervals_in times' from places' j (suc m) ≡ intervals_in times from places j m ++ (i ∷ [])
+    pub store_adds : (m j : ℕ) → j + m ≡ k → intervals_in times' places' j (suc m) ≡ intervals_in times places j m ++ (i ∷ [])
     unfolding intervals_in
     store_adds zero j e = let h : j ≡ k = omega arith in rw (h, stored_last)
     store_adds (suc m) j e = rw (stored_other j (omega arith), store_adds m (j + 1) (omega arith))
@@ -86,13 +86,13 @@ abbrev pub Low : List Sample → Type 0
 Low [] = Unit {0}
 Low (s ∷ ss) = (s.ticks < 2 ^ 42) × Low ss
 
-module _ (depth from : ℕ) where
+module _ (depth : ℕ) where
   -- nothing but the count changes any more
   pub record Frozen (w : Building) : Type 0 where
     pub some : 0 < w.build.samples
     pub shut : (is_some w.build.refusal || leb depth w.build.samples) ≡ true
     pub low : w.build.anchor.extended < 2 ^ 63
-    pub room : holds depth w.times from w.places ≡ true
+    pub room : holds depth w.times w.places ≡ true
 
   abbrev pub grown : ℕ → Building → Building
   grown n w = record { build = record { samples = w.build.samples + n; anchor = w.build.anchor; refusal = w.build.refusal; refused_sample = w.build.refused_sample }; times = w.times; places = w.places }
@@ -105,12 +105,12 @@ module _ (depth from : ℕ) where
   still true n h = refl
   still false n h = le-leb depth (n + 1) (omega (arith, leb-true depth n h))
 
-  count_one : (w : Building) (s : Sample) → Frozen w → s.ticks < 2 ^ 42 → w.build.samples < 2 ^ 63 → take_sample depth from w s ≡ grown 1 w
+  count_one : (w : Building) (s : Sample) → Frozen w → s.ticks < 2 ^ 42 → w.build.samples < 2 ^ 63 → take_sample depth w s ≡ grown 1 w
   unfolding take_sample
   count_one w s f h g =
       rw (in_range_of w.build s h g f.low, f.room, ne_eqb w.build.samples 0 (λ e. omega (arith, f.some)), f.shut)
 
-  count_all : (ss : List Sample) (w : Building) → Frozen w → Low ss → w.build.samples + length ss < 2 ^ 63 → take_samples depth from w ss ≡ grown (length ss) w
+  count_all : (ss : List Sample) (w : Building) → Frozen w → Low ss → w.build.samples + length ss < 2 ^ 63 → take_samples depth w ss ≡ grown (length ss) w
   unfolding take_samples
   count_all [] w f l h = let e : w.build.samples + 0 ≡ w.build.samples = omega arith in rw e
   count_all (s ∷ ss) w f l h =
@@ -157,18 +157,18 @@ close_follows n a s top h g = by s.marked (eqb n 1) (eqb (step_to a s) 0) (lt (r
     by false o false true = refl
     by false o false false = omega arith
 
-module _ (depth from : ℕ) where
+module _ (depth : ℕ) where
   -- number 8, then 5, then what is built
   abbrev outcome : ℕ → Built → Built
   outcome n b = cond (ltb depth n) (Err (Refusal.ClockFull depth)) (cond (ltb n 2) (Err Refusal.TooFewPcrs) b)
 
-  built_is : (w : Building) → built_in depth from w ≡ outcome w.build.samples (built_by (unless_refused w.build.refusal w.build.refused_sample (w.build.samples - 1)) from w)
+  built_is : (w : Building) → built_in depth w ≡ outcome w.build.samples (built_by (unless_refused w.build.refusal w.build.refused_sample (w.build.samples - 1)) w)
   unfolding answer_of
   built_is w = by (ltb depth w.build.samples) (ltb w.build.samples 2)
     where
       by : (t u : Bool)
-          → built_by (cond t (Err (Refusal.ClockFull depth)) (cond u (Err Refusal.TooFewPcrs) (unless_refused w.build.refusal w.build.refused_sample (w.build.samples - 1)))) from w
-          ≡ cond t (Err (Refusal.ClockFull depth)) (cond u (Err Refusal.TooFewPcrs) (built_by (unless_refused w.build.refusal w.build.refused_sample (w.build.samples - 1)) from w))
+          → built_by (cond t (Err (Refusal.ClockFull depth)) (cond u (Err Refusal.TooFewPcrs) (unless_refused w.build.refusal w.build.refused_sample (w.build.samples - 1)))) w
+          ≡ cond t (Err (Refusal.ClockFull depth)) (cond u (Err Refusal.TooFewPcrs) (built_by (unless_refused w.build.refusal w.build.refused_sample (w.build.samples - 1)) w))
       by true u = refl
       by false true = refl
       by false false = refl
@@ -182,11 +182,11 @@ module _ (depth from : ℕ) where
     pub few : k ≤ 2 ^ 20
     pub accepted : w.build.refusal ≡ None
     pub low : w.build.anchor.extended ≤ (k + 1) * 2 ^ 42
-    pub room : holds depth w.times from w.places ≡ true
-    pub stand : intervals_in w.times from w.places 0 k ≡ is
+    pub room : holds depth w.times w.places ≡ true
+    pub stand : intervals_in w.times w.places 0 k ≡ is
 
   Builds-to : ℕ → List RateInterval → Building → List Sample → Type 0
-  Builds-to k is w ss = built_in depth from (take_samples depth from w ss) ≡ outcome (k + 1 + length ss) (prepended is (build_from (k + 1) w.build.anchor ss))
+  Builds-to k is w ss = built_in depth (take_samples depth w ss) ≡ outcome (k + 1 + length ss) (prepended is (build_from (k + 1) w.build.anchor ss))
 
   module _ (shallow : depth ≤ 2 ^ 20) (k : ℕ) (is : List RateInterval) (w : Building) (st : Standing k is w) where
     at_end : Builds-to k is w []
@@ -200,14 +200,14 @@ module _ (depth from : ℕ) where
       past_depth : leb depth (k + 1) ≡ true → Builds-to k is w (s ∷ ss)
       unfolding Builds-to
       past_depth h =
-          ap (built_in depth from) (count_all depth from (s ∷ ss) w (record { some = omega (arith, st.count); shut = rw (st.accepted, st.count) h; low = omega (arith, st.low, st.few); room = st.room }) (l, ls) (rw st.count small))
-          ∙ built_is (grown depth from (suc (length ss)) w)
+          ap (built_in depth) (count_all depth (s ∷ ss) w (record { some = omega (arith, st.count); shut = rw (st.accepted, st.count) h; low = omega (arith, st.low, st.few); room = st.room }) (l, ls) (rw st.count small))
+          ∙ built_is (grown depth (suc (length ss)) w)
           ∙ rw st.count (full _ _ _ (omega (arith, leb-true depth (k + 1) h)))
 
-      taking : leb depth (k + 1) ≡ false → take_sample depth from w s ≡ closed_by from w (close (k + 1) w.build.anchor s)
+      taking : leb depth (k + 1) ≡ false → take_sample depth w s ≡ closed_by w (close (k + 1) w.build.anchor s)
       unfolding take_sample
       taking h =
-          rw (in_range_of depth from w.build s l (omega (arith, st.count)) (omega (arith, st.low, st.few)), st.room, ne_eqb w.build.samples 0 (λ e. omega (arith, st.count)), st.accepted, st.count, h)
+          rw (in_range_of depth w.build s l (omega (arith, st.count)) (omega (arith, st.low, st.few)), st.room, ne_eqb w.build.samples 0 (λ e. omega (arith, st.count)), st.accepted, st.count, h)
 
       follows : Follows (k + 1) ((k + 1 + 1) * 2 ^ 42) (close (k + 1) w.build.anchor s)
       follows = close_follows (k + 1) w.build.anchor s ((k + 1 + 1) * 2 ^ 42) (omega arith) (omega (arith, st.low))
@@ -217,28 +217,28 @@ module _ (depth from : ℕ) where
       refusing h {r} e =
           let v : Building = record { build = counted_with w.build w.build.anchor (Some (first_refusal r)) (k + 1); times = w.times; places = w.places } in
           let kept : Kept (k + 1) r = rw e at follows in
-          let t : take_sample depth from w s ≡ v = taking h ∙ rw (e, st.count) in
+          let t : take_sample depth w s ≡ v = taking h ∙ rw (e, st.count) in
           let n : k + 1 + 1 + length ss ≡ k + 1 + suc (length ss) = omega arith in
-          ap (λ (x : Building). built_in depth from (take_samples depth from x ss)) t
-          ∙ ap (built_in depth from) (count_all depth from ss v (record { some = omega (arith, st.count); shut = refl; low = omega (arith, st.low, st.few); room = st.room }) ls (omega (arith, st.count)))
-          ∙ built_is (grown depth from (length ss) v)
+          ap (λ (x : Building). built_in depth (take_samples depth x ss)) t
+          ∙ ap (built_in depth) (count_all depth ss v (record { some = omega (arith, st.count); shut = refl; low = omega (arith, st.low, st.few); room = st.room }) ls (omega (arith, st.count)))
+          ∙ built_is (grown depth (length ss) v)
           ∙ rw (st.count, n, e, kept)
 
       closing : leb depth (k + 1) ≡ false → {i : RateInterval} {a : Anchor} → close (k + 1) w.build.anchor s ≡ Ok (record { interval = i; anchor = a })
           → ((v : Building) → Standing (k + 1) (is ++ (i ∷ [])) v → Builds-to (k + 1) (is ++ (i ∷ [])) v ss) → Builds-to k is w (s ∷ ss)
       unfolding Builds-to take_samples closed_by build_from
       closing h {i} {a} e again =
-          let v : Building = record { build = counted_with w.build a w.build.refusal w.build.refused_sample; times = store_times w.times from k i; places = store_places w.places k i } in
+          let v : Building = record { build = counted_with w.build a w.build.refusal w.build.refused_sample; times = store_times w.times k i; places = store_places w.places k i } in
           let m : w.build.samples - 1 ≡ k = omega (arith, st.count) in
-          let t : take_sample depth from w s ≡ v = taking h ∙ rw (e, m) in
+          let t : take_sample depth w s ≡ v = taking h ∙ rw (e, m) in
           let n : k + 1 + 1 + length ss ≡ k + 1 + suc (length ss) = omega arith in
           let d = leb-false depth (k + 1) h in
-          let r = holds_room depth w.times from w.places st.room in
+          let r = holds_room depth w.times w.places st.room in
           let far : Follows (k + 1) ((k + 1 + 1) * 2 ^ 42) (Ok (record { interval = i; anchor = a })) = rw e at follows in
-          let stand : intervals_in (store_times w.times from k i) from (store_places w.places k i) 0 (k + 1) ≡ is ++ (i ∷ []) =
-          rw add-one (store_adds w.times from w.places k i (omega (arith, r.of_times)) (omega (arith, r.of_places)) k 0 (omega arith) ∙ ap (λ (js : List RateInterval). js ++ (i ∷ [])) st.stand) in
-          ap (λ (x : Building). built_in depth from (take_samples depth from x ss)) t
-          ∙ again v (record { count = ap (λ (x : ℕ). x + 1) st.count; few = omega arith; accepted = st.accepted; low = far; room = room_holds depth _ from _ (store_room w.times from w.places k i depth r); stand = stand })
+          let stand : intervals_in (store_times w.times k i) (store_places w.places k i) 0 (k + 1) ≡ is ++ (i ∷ []) =
+          rw add-one (store_adds w.times w.places k i (omega (arith, r.of_times)) (omega (arith, r.of_places)) k 0 (omega arith) ∙ ap (λ (js : List RateInterval). js ++ (i ∷ [])) st.stand) in
+          ap (λ (x : Building). built_in depth (take_samples depth x ss)) t
+          ∙ again v (record { count = ap (λ (x : ℕ). x + 1) st.count; few = omega arith; accepted = st.accepted; low = far; room = room_holds depth _ _ (store_room w.times w.places k i depth r); stand = stand })
           ∙ rw (n, e, prepended_then)
 
   module _ (shallow : depth ≤ 2 ^ 20) where
@@ -254,20 +254,20 @@ module _ (depth from : ℕ) where
         by again false h (Ok c) e = closing shallow k is w st s ss l.0 l.1 small h e (again (is ++ (c.interval ∷ [])))
 
     -- from no sample on
-    module _ (times : List Float) (places : List ℕ) (h : holds depth times from places ≡ true) where
+    module _ (times : List Float) (places : List ℕ) (h : holds depth times places ≡ true) where
       abbrev empty : Building
       empty = record { build = no_sample; times = times; places = places }
 
-      first_sample : (s : Sample) → s.ticks < 2 ^ 42 → take_sample depth from empty s ≡ counted empty (anchor_at s)
+      first_sample : (s : Sample) → s.ticks < 2 ^ 42 → take_sample depth empty s ≡ counted empty (anchor_at s)
       unfolding take_sample
-      first_sample s l = rw (in_range_of depth from no_sample s l (omega arith) (omega arith), h)
+      first_sample s l = rw (in_range_of depth no_sample s l (omega arith) (omega arith), h)
 
-      pub samples_build : (ss : List Sample) → Low ss → length ss < 2 ^ 63 → built_in depth from (take_samples depth from empty ss) ≡ build depth ss
+      pub samples_build : (ss : List Sample) → Low ss → length ss < 2 ^ 63 → built_in depth (take_samples depth empty ss) ≡ build depth ss
       unfolding take_samples build answer_of intervals_in Builds-to
       samples_build [] l small = rw (le-ltb depth 0 (omega arith))
       samples_build (s ∷ ss) l small =
           let n : 1 + length ss ≡ suc (length ss) = omega arith in
           let begun : Standing 0 [] (counted empty (anchor_at s)) = record { count = refl; few = omega arith; accepted = refl; low = omega (arith, l.0); room = h; stand = refl } in
-          ap (λ (x : Building). built_in depth from (take_samples depth from x ss)) (first_sample s l.0)
+          ap (λ (x : Building). built_in depth (take_samples depth x ss)) (first_sample s l.0)
           ∙ builds ss 0 [] (counted empty (anchor_at s)) begun l.1 (omega arith)
           ∙ rw (n, prepended_nil)

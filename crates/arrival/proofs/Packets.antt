@@ -37,17 +37,17 @@ samples_low pcrPid start pending (p ∷ ps) =
     let r = samples_low pcrPid (start + 188) s.pending ps in
     (low_append s.sample _ h.0 r.0, omega (arith, h.1, r.1, length-append s.sample (samples_from pcrPid (start + 188) s.pending ps)))
 
-module _ (pcrPid depth from : ℕ) where
-  take_append : (xs ys : List Sample) (w : Building) → take_samples depth from w (xs ++ ys) ≡ take_samples depth from (take_samples depth from w xs) ys
+module _ (pcrPid depth : ℕ) where
+  take_append : (xs ys : List Sample) (w : Building) → take_samples depth w (xs ++ ys) ≡ take_samples depth (take_samples depth w xs) ys
   unfolding take_samples
   take_append [] ys w = refl
-  take_append (x ∷ xs) ys w = take_append xs ys (take_sample depth from w x)
+  take_append (x ∷ xs) ys w = take_append xs ys (take_sample depth w x)
 
   abbrev seen : Passing → Result TsPacket TsError → Seen
   seen w p = seen_in w.pass.start w.pass.pending_discontinuity (field_on pcrPid p)
 
   abbrev taken : Passing → Result TsPacket TsError → Building
-  taken w p = take_samples depth from (building_of w) (seen w p).sample
+  taken w p = take_samples depth (building_of w) (seen w p).sample
 
   abbrev passed : Passing → Result TsPacket TsError → Passing
   passed w p =
@@ -57,23 +57,23 @@ module _ (pcrPid depth from : ℕ) where
         places = (taken w p).places;
       }
 
-  pass_one : (w : Passing) (p : Result TsPacket TsError) → w.pass.start ≤ never - 188 → pass_packet pcrPid depth from w p ≡ passed w p
+  pass_one : (w : Passing) (p : Result TsPacket TsError) → w.pass.start ≤ never - 188 → pass_packet pcrPid depth w p ≡ passed w p
   unfolding pass_packet pass_seen
   pass_one w p h = rw (le-leb w.pass.start (never - 188) h)
 
   pass_takes : (ps : List (Result TsPacket TsError)) (w : Passing) → w.pass.start + 188 * length ps ≤ never
-      → building_of (pass_packets pcrPid depth from w ps) ≡ take_samples depth from (building_of w) (samples_from pcrPid w.pass.start w.pass.pending_discontinuity ps)
+      → building_of (pass_packets pcrPid depth w ps) ≡ take_samples depth (building_of w) (samples_from pcrPid w.pass.start w.pass.pending_discontinuity ps)
   unfolding pass_packets samples_from take_samples
   pass_takes [] w h = refl
   pass_takes (p ∷ ps) w h =
-      ap (λ (x : Passing). building_of (pass_packets pcrPid depth from x ps)) (pass_one w p (omega arith))
+      ap (λ (x : Passing). building_of (pass_packets pcrPid depth x ps)) (pass_one w p (omega arith))
       ∙ pass_takes ps (passed w p) (omega arith)
       ∙ sym (take_append (seen w p).sample (samples_from pcrPid (w.pass.start + 188) (seen w p).pending ps) (building_of w))
 
   -- the pass builds the clock of the packets' samples
-  pub pass_builds : (times : List Float) (places : List ℕ) (ps : List (Result TsPacket TsError)) → depth ≤ 2 ^ 20 → holds depth times from places ≡ true → 188 * length ps < 2 ^ 63
-      → built_in depth from (building_of (pass_packets pcrPid depth from (record { pass = no_packet; times = times; places = places }) ps)) ≡ build depth (samples_of pcrPid ps)
+  pub pass_builds : (times : List Float) (places : List ℕ) (ps : List (Result TsPacket TsError)) → depth ≤ 2 ^ 20 → holds depth times places ≡ true → 188 * length ps < 2 ^ 63
+      → built_in depth (building_of (pass_packets pcrPid depth (record { pass = no_packet; times = times; places = places }) ps)) ≡ build depth (samples_of pcrPid ps)
   pass_builds times places ps shallow h small =
       let l = samples_low pcrPid 0 false ps in
-      ap (built_in depth from) (pass_takes ps (record { pass = no_packet; times = times; places = places }) (omega arith))
-      ∙ samples_build depth from shallow times places h (samples_of pcrPid ps) l.0 (omega (arith, l.1))
+      ap (built_in depth) (pass_takes ps (record { pass = no_packet; times = times; places = places }) (omega arith))
+      ∙ samples_build depth shallow times places h (samples_of pcrPid ps) l.0 (omega (arith, l.1))

@@ -7,7 +7,7 @@ use Rattle.packet.specs.declared.TsError.{TsError}
 use Rattle.arrival.specs.declared.ClockPass.{ClockPass}
 use Rattle.arrival.specs.Samples.{field_on, Seen, seen_in}
 use Rattle.arrival.specs.Work.{never}
-use Rattle.arrival.specs.Pass.{take_samples, Passing, pass_seen, other_packet, pass_packet, Passes}
+use Rattle.arrival.specs.Pass.{take_samples, Passing, pass_seen, other_packet, pass_packet}
 
 -- ---- which field
 module _ (pcrPid : ℕ) {p : Result TsPacket TsError} where
@@ -25,12 +25,12 @@ module _ (pcrPid : ℕ) {p : Result TsPacket TsError} where
     field_here g k = rw (e, eq-eqb h.pid pcrPid g, k)
 
 -- ---- a packet
-module _ (depth from : ℕ) (b : ClockPass) (times : List Float) (places : List ℕ) where
+module _ (depth : ℕ) (b : ClockPass) (times : List Float) (places : List ℕ) where
   abbrev w : Passing
   w = record { pass = b; times = times; places = places }
 
   other_passed : (seen : Seen) → seen ≡ record { pending = b.pending_discontinuity; sample = [] }
-      → pass_seen depth from w seen ≡ record { pass = other_packet b; times = times; places = places }
+      → pass_seen depth w seen ≡ record { pass = other_packet b; times = times; places = places }
   unfolding pass_seen other_packet take_samples
   other_passed seen e = rw e (by (leb b.start (never - 188)))
     where
@@ -41,7 +41,7 @@ module _ (depth from : ℕ) (b : ClockPass) (times : List Float) (places : List 
       by false = refl
 
   -- one that does not speak of the clock
-  pub other_passes : (pcrPid : ℕ) (p : Result TsPacket TsError) (r : ClockPass) → field_on pcrPid p ≡ None → r ≡ other_packet b
-      → Passes (pass_packet pcrPid depth from w p) r times places
+  pub other_passes : (pcrPid : ℕ) (p : Result TsPacket TsError) → field_on pcrPid p ≡ None
+      → pass_packet pcrPid depth w p ≡ record { pass = other_packet b; times = times; places = places }
   unfolding pass_packet seen_in
-  other_passes pcrPid p r e g = rw (e, other_passed _ refl) (record { pass_is = g; times_are = refl; places_are = refl })
+  other_passes pcrPid p e = rw (e, other_passed _ refl) refl

@@ -7,6 +7,7 @@ use Rattle.packet.specs.declared.ClockReference.{ClockReference}
 use Rattle.packet.specs.declared.TsPacket.{TsPacket}
 use Rattle.packet.specs.declared.TsError.{TsError}
 use Rattle.arrival.specs.declared.RateInterval.{RateInterval}
+use Rattle.arrival.specs.declared.IntervalsMut.{IntervalsMut}
 use Rattle.arrival.specs.declared.Sample.{Sample}
 use Rattle.arrival.specs.declared.Anchor.{Anchor}
 use Rattle.arrival.specs.declared.Closed.{Closed}
@@ -30,10 +31,13 @@ pub record Building : Type 0 where
   pub times : List Float
   pub places : List ℕ
 
+abbrev pub building_in : ClockBuild → IntervalsMut → Building
+building_in b i = record { build = b; times = i.times.now; places = i.places.now }
+
 -- an interval stored as number k
-unfoldable pub store_times : List Float → ℕ → ℕ → RateInterval → List Float
-store_times times from k i =
-    slice_set (slice_set (slice_set times (from + 3 * k) i.start_time) (from + 3 * k + 1) i.rate) (from + 3 * k + 2) i.pts_offset
+unfoldable pub store_times : List Float → ℕ → RateInterval → List Float
+store_times times k i =
+    slice_set (slice_set (slice_set times (3 * k) i.start_time) (3 * k + 1) i.rate) (3 * k + 2) i.pts_offset
 
 unfoldable pub store_places : List ℕ → ℕ → RateInterval → List ℕ
 store_places places k i = slice_set (slice_set places (2 * k) i.start_pos) (2 * k + 1) i.pcr_ref_90k
@@ -59,14 +63,14 @@ first_refusal (Refusal.ClockFull depth) = ClockFault.RateOutsideLimits
 first_refusal (Refusal.QueueFull packet pid) = ClockFault.RateOutsideLimits
 
 -- by what the sample gave: the interval is stored, or the refusal and the sample's number are kept
-unfoldable pub closed_by : ℕ → Building → Result Closed Refusal → Building
-closed_by from w (Ok c) =
+unfoldable pub closed_by : Building → Result Closed Refusal → Building
+closed_by w (Ok c) =
     record {
       build = counted_with w.build c.anchor w.build.refusal w.build.refused_sample;
-      times = store_times w.times from (w.build.samples - 1) c.interval;
+      times = store_times w.times (w.build.samples - 1) c.interval;
       places = store_places w.places (w.build.samples - 1) c.interval;
     }
-closed_by from w (Err r) =
+closed_by w (Err r) =
     record { build = counted_with w.build w.build.anchor (Some (first_refusal r)) w.build.samples; times = w.times; places = w.places }
 
 -- the numbers stay within 64 bits
@@ -74,17 +78,17 @@ unfoldable pub in_range : ClockBuild → Sample → Bool
 in_range b s = nat_lt s.ticks (2 ^ 63) && nat_lt b.samples (2 ^ 63) && nat_lt b.anchor.extended (2 ^ 63)
 
 -- unchanged where a number does not fit, or the work is too short for as many intervals as the depth
-unfoldable pub take_sample : ℕ → ℕ → Building → Sample → Building
-take_sample depth from w s =
-    cond (in_range w.build s && holds depth w.times from w.places)
+unfoldable pub take_sample : ℕ → Building → Sample → Building
+take_sample depth w s =
+    cond (in_range w.build s && holds depth w.times w.places)
     (cond (w.build.samples == 0) (counted w (anchor_at s))
     (cond (is_some w.build.refusal || nat_le depth w.build.samples) (counted w w.build.anchor)
-    (closed_by from w (close w.build.samples w.build.anchor s))))
+    (closed_by w (close w.build.samples w.build.anchor s))))
     w
 
-unfoldable pub take_samples : ℕ → ℕ → Building → List Sample → Building
-take_samples depth from w [] = w
-take_samples depth from w (s ∷ ss) = take_samples depth from (take_sample depth from w s) ss
+unfoldable pub take_samples : ℕ → Building → List Sample → Building
+take_samples depth w [] = w
+take_samples depth w (s ∷ ss) = take_samples depth (take_sample depth w s) ss
 
 -- the refusal of a sample again, from its kind and the sample's number
 abbrev pub refusal_at : ClockFault → ℕ → Refusal
@@ -104,12 +108,12 @@ answer_of depth b =
     (unless_refused b.refusal b.refused_sample (b.samples - 1)))
 
 -- what a building has come to: the intervals that stand in the work, or a refusal
-abbrev pub built_by : Result ℕ Refusal → ℕ → Building → Built
-built_by (Ok n) from w = Ok (intervals_in w.times from w.places 0 n)
-built_by (Err r) from w = Err r
+abbrev pub built_by : Result ℕ Refusal → Building → Built
+built_by (Ok n) w = Ok (intervals_in w.times w.places 0 n)
+built_by (Err r) w = Err r
 
-abbrev pub built_in : ℕ → ℕ → Building → Built
-built_in depth from w = built_by (answer_of depth w.build) from w
+abbrev pub built_in : ℕ → Building → Built
+built_in depth w = built_by (answer_of depth w.build) w
 
 -- ---- packets
 -- the pass, and the work that it stands in
@@ -118,13 +122,16 @@ pub record Passing : Type 0 where
   pub times : List Float
   pub places : List ℕ
 
+abbrev pub passing_in : ClockPass → IntervalsMut → Passing
+passing_in p i = record { pass = p; times = i.times.now; places = i.places.now }
+
 abbrev pub building_of : Passing → Building
 building_of w = record { build = w.pass.build; times = w.times; places = w.places }
 
 -- a packet passed with what was seen in it; unchanged where the next packet would have no position
-unfoldable pub pass_seen : ℕ → ℕ → Passing → Seen → Passing
-pass_seen depth from w seen =
-    let b = take_samples depth from (building_of w) seen.sample in
+unfoldable pub pass_seen : ℕ → Passing → Seen → Passing
+pass_seen depth w seen =
+    let b = take_samples depth (building_of w) seen.sample in
     cond (nat_le w.pass.start (never - 188))
     (record {
       pass = record { start = w.pass.start + 188; pending_discontinuity = seen.pending; build = b.build };
@@ -141,25 +148,34 @@ other_packet p =
     p
 
 -- a packet on the PCR PID, by its adaptation field
-abbrev pub pass_field : ℕ → ℕ → Passing → Bool → Option ClockReference → Passing
-pass_field depth from w discontinuity pcr =
-    pass_seen depth from w (seen_pcr w.pass.start (w.pass.pending_discontinuity || discontinuity) pcr)
+abbrev pub pass_field : ℕ → Passing → Bool → Option ClockReference → Passing
+pass_field depth w discontinuity pcr =
+    pass_seen depth w (seen_pcr w.pass.start (w.pass.pending_discontinuity || discontinuity) pcr)
 
-unfoldable pub pass_packet : ℕ → ℕ → ℕ → Passing → Result TsPacket TsError → Passing
-pass_packet pcrPid depth from w p =
-    pass_seen depth from w (seen_in w.pass.start w.pass.pending_discontinuity (field_on pcrPid p))
+unfoldable pub pass_packet : ℕ → ℕ → Passing → Result TsPacket TsError → Passing
+pass_packet pcrPid depth w p =
+    pass_seen depth w (seen_in w.pass.start w.pass.pending_discontinuity (field_on pcrPid p))
 
-unfoldable pub pass_packets : ℕ → ℕ → ℕ → Passing → List (Result TsPacket TsError) → Passing
-pass_packets pcrPid depth from w [] = w
-pass_packets pcrPid depth from w (p ∷ ps) = pass_packets pcrPid depth from (pass_packet pcrPid depth from w p) ps
+unfoldable pub pass_packets : ℕ → ℕ → Passing → List (Result TsPacket TsError) → Passing
+pass_packets pcrPid depth w [] = w
+pass_packets pcrPid depth w (p ∷ ps) = pass_packets pcrPid depth (pass_packet pcrPid depth w p) ps
 
 -- ---- what a contract says: the answer, and what the work then holds
-pub record Builds (w : Building) (build : ClockBuild) (times : List Float) (places : List ℕ) : Type 0 where
-  pub build_is : build ≡ w.build
-  pub times_are : times ≡ w.times
-  pub places_are : places ≡ w.places
+-- the slices are the caller's own still
+pub record SameSlices (before after : IntervalsMut) : Type 0 where
+  pub same_times : after.times.ghost_name ≡ before.times.ghost_name
+  pub same_places : after.places.ghost_name ≡ before.places.ghost_name
+  pub same_depth : after.depth ≡ before.depth
 
-pub record Passes (w : Passing) (pass : ClockPass) (times : List Float) (places : List ℕ) : Type 0 where
+pub record Written (times : List Float) (places : List ℕ) (before after : IntervalsMut) : Type 0 where
+  pub times_are : after.times.now ≡ times
+  pub places_are : after.places.now ≡ places
+  pub same : SameSlices before after
+
+pub record Builds (w : Building) (build : ClockBuild) (before after : IntervalsMut) : Type 0 where
+  pub build_is : build ≡ w.build
+  pub written : Written w.times w.places before after
+
+pub record Passes (w : Passing) (pass : ClockPass) (before after : IntervalsMut) : Type 0 where
   pub pass_is : pass ≡ w.pass
-  pub times_are : times ≡ w.times
-  pub places_are : places ≡ w.places
+  pub written : Written w.times w.places before after

@@ -7,8 +7,8 @@ ghost use Rattle.clock.specs.Pcr.{pcr_modulus};
 ghost use Rattle.arrival.specs.ArrivalClock.{seconds, anchor_at, step_to, interval_at, close};
 ghost use Rattle.arrival.specs.Times.{no_interval, time_of, decode_time_or_zero};
 ghost use Rattle.arrival.specs.Samples.{ticks_of};
-ghost use Rattle.arrival.specs.Work.{holds, interval_in, nowhere_at, cursor_at, advance, start_of_arrival, next_arrival};
-ghost use Rattle.arrival.specs.Pass.{no_sample, store_times, store_places, first_refusal, refusal_at, in_range, closed_by, take_sample, Builds, answer_of, no_packet, other_packet, pass_field, pass_packet, Passes};
+ghost use Rattle.arrival.specs.Work.{room_for, interval_in, nowhere_at, cursor_at, advance, start_of_arrival, next_arrival};
+ghost use Rattle.arrival.specs.Pass.{no_sample, store_times, store_places, first_refusal, refusal_at, in_range, closed_by, building_in, take_sample, Written, Builds, answer_of, no_packet, other_packet, passing_in, pass_field, pass_packet, Passes};
 
 use clock::{PCR_MODULUS_27MHZ, TIMESTAMP_MODULUS_90KHZ};
 use error::Refusal;
@@ -74,6 +74,22 @@ pub struct RateInterval {
     pub pcr_ref_90k: u64,
 }
 
+// The intervals of a clock in lent work: interval i has three floats at 3 i and two numbers at 2 i.
+#[derive(Clone, Copy)]
+pub struct Intervals<'a> {
+    pub times: &'a [f64],
+    pub places: &'a [u64],
+    pub count: usize,
+}
+
+// The same to be written, for as many samples as the depth.
+#[derive(Drop)]
+pub struct IntervalsMut<'a> {
+    pub times: &'a mut [f64],
+    pub places: &'a mut [u64],
+    pub depth: usize,
+}
+
 // The interval that the cursor is at; `until` is where the next begins, or NEVER: the cursor is copied for each packet, and an Option
 // would be twice as long.
 #[derive(Clone, Copy)]
@@ -95,14 +111,11 @@ pub struct PacketArrival {
 // Behind every position: there is no next interval.
 const NEVER: u64 = u64::MAX;
 
-// Here and below, interval i stands at `from` + 3 i in `times` and at 2 i in `places`, which the caller lends: nothing is allocated.
-// Tried and left: one struct of the slices, `from` and the count. Each clause then names its parts as `clock.entry.times.now`, and the
-// caller, who writes to other floats of `times`, makes it anew for each packet.
-#[tactic(auto, unfolding(crate::specs::Work::holds))]
-fn holds_intervals(n: usize, times: &[f64], from: usize, places: &[u64]) -> bool
-    ensures { result ≡ holds n times.now from places.now }
+// By how many floats and numbers there are.
+fn holds_intervals(n: usize, times: usize, places: usize) -> bool
+    ensures { result ≡ room_for n times places }
 {
-    from <= times.len() && n <= (times.len() - from) / 3 && n <= places.len() / 2
+    n <= times / 3 && n <= places / 2
 }
 
 // Not `ieee::as_float`, which tests for a count below 2^31: one of ticks is seldom so small.
@@ -190,26 +203,6 @@ impl Anchor {
     }
 }
 
-#[tactic(auto, unfolding(crate::specs::Pass::store_times, crate::specs::Pass::store_places))]
-fn store_interval(
-    interval: RateInterval,
-    times: &mut [f64],
-    from: usize,
-    places: &mut [u64],
-    index: usize,
-)
-    requires { (from + 3 * index + 2 < length times.old) × (2 * index + 1 < length places.old) }
-    ensures { (times.new ≡ store_times times.old from index interval) × (places.new ≡ store_places places.old index interval) }
-{
-    let t = from + 3 * index;
-    times[t] = interval.start_time;
-    times[t + 1] = interval.rate;
-    times[t + 2] = interval.pts_offset;
-    let p = 2 * index;
-    places[p] = interval.start_pos;
-    places[p + 1] = interval.pcr_ref_90k;
-}
-
 impl From<Refusal> for ClockFault {
     ghost use Rattle.arrival.specs.Pass.{first_refusal};
 
@@ -235,6 +228,22 @@ impl ClockFault {
             ClockFault::RepeatedPcr => Refusal::RepeatedPcr { sample },
             ClockFault::RateOutsideLimits => Refusal::RateOutsideLimits { sample },
         }
+    }
+}
+
+impl IntervalsMut<'_> {
+    #[tactic(auto, unfolding(crate::specs::Pass::store_times, crate::specs::Pass::store_places))]
+    fn store(&mut self, interval: RateInterval, index: usize)
+        requires { (3 * index + 2 < length self.old.times.now) × (2 * index + 1 < length self.old.places.now) }
+        ensures { Written (store_times self.old.times.now index interval) (store_places self.old.places.now index interval) self.old self.new }
+    {
+        let t = 3 * index;
+        self.times[t] = interval.start_time;
+        self.times[t + 1] = interval.rate;
+        self.times[t + 2] = interval.pts_offset;
+        let p = 2 * index;
+        self.places[p] = interval.start_pos;
+        self.places[p + 1] = interval.pcr_ref_90k;
     }
 }
 
@@ -264,68 +273,44 @@ impl ClockBuild {
     }
 
     #[tactic(auto, unfolding(crate::specs::Pass::closed_by))]
-    fn closed(
-        self,
-        closed: Result<Closed, Refusal>,
-        times: &mut [f64],
-        from: usize,
-        places: &mut [u64],
-    ) -> ClockBuild
-        requires samples_nonzero { (0 < self.samples) × (self.samples < 2 ^ 63) }
-        requires samples_in_bounds { (from + 3 * (self.samples - 1) + 2 < length times.old) × (2 * (self.samples - 1) + 1 < length places.old) }
-        ensures { Builds (closed_by from (record { build = self; times = times.old; places = places.old }) closed) result times.new places.new }
+    fn closed(&mut self, closed: Result<Closed, Refusal>, intervals: &mut IntervalsMut)
+        requires samples_nonzero { (0 < self.old.samples) × (self.old.samples < 2 ^ 63) }
+        requires samples_in_bounds { (3 * (self.old.samples - 1) + 2 < length intervals.old.times.now) × (2 * (self.old.samples - 1) + 1 < length intervals.old.places.now) }
+        ensures { Builds (closed_by (building_in self.old intervals.old) closed) self.new intervals.old intervals.new }
     {
         match closed {
             Ok(Closed { interval, anchor }) => {
-                store_interval(interval, times, from, places, self.samples - 1);
-                ClockBuild {
-                    samples: self.samples + 1,
-                    anchor,
-                    ..self
-                }
+                intervals.store(interval, self.samples - 1);
+                self.anchor = anchor;
             }
-            Err(refusal) => ClockBuild {
-                samples: self.samples + 1,
-                refusal: Some(ClockFault::from(refusal)),
-                refused_sample: self.samples as u64,
-                ..self
-            },
+            Err(refusal) => {
+                self.refusal = Some(ClockFault::from(refusal));
+                self.refused_sample = self.samples as u64;
+            }
         }
+        self.samples += 1;
     }
 
     // Ruled out: a sample behind a refusal that is not counted; an interval stored one place too far.
     #[tactic(auto, unfolding(crate::specs::Pass::take_sample, crate::specs::Pass::in_range, crate::specs::Work::holds))]
-    pub fn sample(
-        self,
-        sample: Sample,
-        times: &mut [f64],
-        from: usize,
-        places: &mut [u64],
-        depth: usize,
-    ) -> ClockBuild
-        ensures { Builds (take_sample depth from (record { build = self; times = times.old; places = places.old }) sample) result times.new places.new }
+    pub fn sample(&mut self, sample: Sample, intervals: &mut IntervalsMut)
+        ensures { Builds (take_sample intervals.old.depth (building_in self.old intervals.old) sample) self.new intervals.old intervals.new }
     {
-        if !self.in_range(sample) {
-            return self;
-        }
-        if !holds_intervals(depth, times, from, places) {
-            return self;
+        let depth = intervals.depth;
+        if !self.in_range(sample)
+            || !holds_intervals(depth, intervals.times.len(), intervals.places.len())
+        {
+            return;
         }
         if self.samples == 0 {
-            return ClockBuild {
-                samples: 1,
-                anchor: Anchor::first(sample),
-                ..self
-            };
+            self.anchor = Anchor::first(sample);
+            self.samples = 1;
+        } else if self.refusal.is_some() || depth <= self.samples {
+            self.samples += 1;
+        } else {
+            let closed = self.anchor.close(self.samples as u64, sample);
+            self.closed(closed, intervals);
         }
-        if self.refusal.is_some() || depth <= self.samples {
-            return ClockBuild {
-                samples: self.samples + 1,
-                ..self
-            };
-        }
-        let closed = self.anchor.close(self.samples as u64, sample);
-        self.closed(closed, times, from, places)
     }
 
     // Ruled out: number 9 where there are more samples than the depth; the count of samples for that of intervals.
@@ -362,69 +347,52 @@ impl ClockPass {
 
     // A packet that does not parse, of another PID, or without an adaptation field. Ruled out: a packet not counted as 188 bytes; a mark dropped.
     #[tactic(auto, unfolding(crate::specs::Pass::other_packet))]
-    pub fn other(self) -> ClockPass
-        ensures { result ≡ other_packet self }
+    pub fn other(&mut self)
+        ensures { self.new ≡ other_packet self.old }
     {
-        if NEVER - 188 < self.start {
-            return self;
-        }
-        ClockPass {
-            start: self.start + 188,
-            ..self
+        if self.start <= NEVER - 188 {
+            self.start += 188;
         }
     }
 
     // A packet on the PCR PID, by its adaptation field. Ruled out: a mark that does not reach the PCR of its own packet; one that reaches the second PCR.
     #[tactic(auto, unfolding(crate::specs::Pass::pass_seen, crate::specs::Pass::take_samples, crate::specs::Samples::seen_pcr))]
     pub fn field(
-        self,
+        &mut self,
         discontinuity_indicator: bool,
         pcr: Option<ClockReference>,
-        times: &mut [f64],
-        from: usize,
-        places: &mut [u64],
-        depth: usize,
-    ) -> ClockPass
-        ensures { Passes (pass_field depth from (record { pass = self; times = times.old; places = places.old }) discontinuity_indicator pcr) result times.new places.new }
+        intervals: &mut IntervalsMut,
+    )
+        ensures { Passes (pass_field intervals.old.depth (passing_in self.old intervals.old) discontinuity_indicator pcr) self.new intervals.old intervals.new }
     {
         if NEVER - 188 < self.start {
-            return self;
+            return;
         }
-        let start = self.start + 188;
         let marked = self.pending_discontinuity || discontinuity_indicator;
         match pcr {
-            None => ClockPass {
-                start,
-                pending_discontinuity: marked,
-                ..self
-            },
+            None => self.pending_discontinuity = marked,
             Some(reference) => {
                 let sample = Sample {
                     position: self.start + 10,
                     ticks: ticks_of(reference),
                     marked,
                 };
-                ClockPass {
-                    start,
-                    pending_discontinuity: false,
-                    build: self.build.sample(sample, times, from, places, depth),
-                }
+                self.build.sample(sample, intervals);
+                self.pending_discontinuity = false;
             }
         }
+        self.start += 188;
     }
 
     // Ruled out: the clock of another PID; a stop at a packet that does not parse.
     #[tactic(auto, unfolding(crate::specs::Pass::pass_packet, crate::specs::Pass::pass_seen, crate::specs::Pass::take_samples, crate::specs::Pass::other_packet, crate::specs::Samples::field_on, crate::specs::Samples::seen_in))]
     pub fn packet(
-        self,
+        &mut self,
         parsed: Result<TsPacket, TsError>,
         pcr_pid: u16,
-        times: &mut [f64],
-        from: usize,
-        places: &mut [u64],
-        depth: usize,
-    ) -> ClockPass
-        ensures { Passes (pass_packet pcr_pid depth from (record { pass = self; times = times.old; places = places.old }) parsed) result times.new places.new }
+        intervals: &mut IntervalsMut,
+    )
+        ensures { Passes (pass_packet pcr_pid intervals.old.depth (passing_in self.old intervals.old) parsed) self.new intervals.old intervals.new }
     {
         let Ok(packet) = parsed else {
             return self.other();
@@ -434,14 +402,7 @@ impl ClockPass {
         }
         match packet.adaptation_field {
             Some(field) => {
-                self.field(
-                    field.discontinuity_indicator,
-                    field.pcr,
-                    times,
-                    from,
-                    places,
-                    depth,
-                )
+                self.field(field.discontinuity_indicator, field.pcr, intervals);
             }
             None => self.other(),
         }
@@ -458,22 +419,6 @@ impl RateInterval {
             rate: 0.0,
             pts_offset: 0.0,
             pcr_ref_90k: 0,
-        }
-    }
-
-    #[tactic(auto, unfolding(crate::specs::Work::interval_in))]
-    fn read(times: &[f64], from: usize, places: &[u64], index: usize) -> RateInterval
-        requires { (from + 3 * index + 2 < length times.now) × (2 * index + 1 < length places.now) }
-        ensures { result ≡ interval_in times.now from places.now index }
-    {
-        let t = from + 3 * index;
-        let p = 2 * index;
-        RateInterval {
-            start_pos: places[p],
-            start_time: times[t],
-            rate: times[t + 1],
-            pts_offset: times[t + 2],
-            pcr_ref_90k: places[p + 1],
         }
     }
 
@@ -500,6 +445,24 @@ impl RateInterval {
     }
 }
 
+impl Intervals<'_> {
+    #[tactic(auto, unfolding(crate::specs::Work::interval_in))]
+    fn read(self, index: usize) -> RateInterval
+        requires { (3 * index + 2 < length self.times.now) × (2 * index + 1 < length self.places.now) }
+        ensures { result ≡ interval_in self.entry.times.now self.entry.places.now index }
+    {
+        let t = 3 * index;
+        let p = 2 * index;
+        RateInterval {
+            start_pos: self.places[p],
+            start_time: self.times[t],
+            rate: self.times[t + 1],
+            pts_offset: self.times[t + 2],
+            pcr_ref_90k: self.places[p + 1],
+        }
+    }
+}
+
 impl Cursor {
     fn nowhere(index: usize) -> Cursor
         ensures { result ≡ nowhere_at index }
@@ -513,21 +476,25 @@ impl Cursor {
 
     // Ruled out: an interval past the count; the interval before.
     #[tactic(auto, unfolding(crate::specs::Work::cursor_at, crate::specs::Work::holds))]
-    pub fn at(times: &[f64], from: usize, places: &[u64], count: usize, index: usize) -> Cursor
-        ensures { result ≡ cursor_at times.now from places.now count index }
+    pub fn at(intervals: Intervals, index: usize) -> Cursor
+        ensures { result ≡ cursor_at intervals.entry.times.now intervals.entry.places.now intervals.entry.count index }
     {
-        if count <= index {
+        if intervals.count <= index {
             return Cursor::nowhere(index);
         }
-        if !holds_intervals(count, times, from, places) {
+        if !holds_intervals(
+            intervals.count,
+            intervals.times.len(),
+            intervals.places.len(),
+        ) {
             return Cursor::nowhere(index);
         }
-        let interval = RateInterval::read(times, from, places, index);
+        let interval = intervals.read(index);
         let next = index + 1;
         Cursor {
             index,
-            until: if next < count {
-                places[2 * next]
+            until: if next < intervals.count {
+                intervals.places[2 * next]
             } else {
                 NEVER
             },
@@ -537,21 +504,14 @@ impl Cursor {
 
     // Ruled out: a step to an interval that begins behind the position; a stop before one that begins at it.
     #[tactic(auto, using(crate::proofs::Cursors::advance_last, crate::proofs::Cursors::advance_here, crate::proofs::Cursors::advance_on, crate::proofs::Cursors::cursor_index))]
-    pub fn advance(
-        self,
-        times: &[f64],
-        from: usize,
-        places: &[u64],
-        count: usize,
-        pos: u64,
-    ) -> Cursor
-        ensures { result ≡ advance times.now from places.now count self pos }
+    pub fn advance(self, intervals: Intervals, pos: u64) -> Cursor
+        ensures { result ≡ advance intervals.entry.times.now intervals.entry.places.now intervals.entry.count self pos }
     {
         let mut next = self;
-        let last = count.saturating_sub(1);
+        let last = intervals.count.saturating_sub(1);
         // A `while`: the cursor that each step makes has its own index, so a `for` would count beside it.
         while next.index < last && next.until <= pos {
-            next = Cursor::at(times, from, places, count, next.index + 1);
+            next = Cursor::at(intervals, next.index + 1);
         }
         next
     }
@@ -560,11 +520,11 @@ impl Cursor {
 impl PacketArrival {
     // Before the first packet. Ruled out: an interval that begins behind byte 0 though one begins there; a first packet that begins at byte 188.
     #[tactic(auto, unfolding(crate::specs::Work::start_of_arrival))]
-    pub fn start(times: &[f64], from: usize, places: &[u64], count: usize) -> PacketArrival
-        ensures { result ≡ start_of_arrival times.now from places.now count }
+    pub fn start(intervals: Intervals) -> PacketArrival
+        ensures { result ≡ start_of_arrival intervals.entry.times.now intervals.entry.places.now intervals.entry.count }
     {
-        let first = Cursor::at(times, from, places, count, 0);
-        let cursor = first.advance(times, from, places, count, 0);
+        let first = Cursor::at(intervals, 0);
+        let cursor = first.advance(intervals, 0);
         let t = cursor.interval.time_of(0);
         PacketArrival {
             cursor,
@@ -576,14 +536,14 @@ impl PacketArrival {
 
     // Ruled out: the interval of the packet's start; a start other than the last packet's end.
     #[tactic(auto, unfolding(crate::specs::Work::next_arrival))]
-    pub fn next(self, times: &[f64], from: usize, places: &[u64], count: usize) -> PacketArrival
-        ensures { result ≡ next_arrival times.now from places.now count self }
+    pub fn next(self, intervals: Intervals) -> PacketArrival
+        ensures { result ≡ next_arrival intervals.entry.times.now intervals.entry.places.now intervals.entry.count self }
     {
         if NEVER - 188 < self.end {
             return self;
         }
         let end = self.end + 188;
-        let cursor = self.cursor.advance(times, from, places, count, end);
+        let cursor = self.cursor.advance(intervals, end);
         PacketArrival {
             cursor,
             end,

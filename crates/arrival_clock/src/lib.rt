@@ -8,10 +8,12 @@ ghost use Rattle.arrival.specs.Work.{never};
 ghost use Rattle.arrival_clock.specs.Clock.{parses_from, pass_over, Answers};
 ghost use Rattle.arrival_clock.specs.Stretch.{Whole, NoFieldOn};
 
-use arrival::ClockPass;
+use arrival::{ClockPass, IntervalsMut};
 use error::Refusal;
 use packet::{TsPacket, TsPacketLayout};
 
+// `bytes` and `layout` stay two parameters, here and below: packet k is asked of the recording's bytes by the layout, and
+// `packet::window(bytes, layout, k)` takes them so.
 // How many packets from the first on, at most `count`, are known to lie in the recording: none where a packet is shorter than 188
 // bytes or longer than the recording.
 fn whole_packets(bytes: &[u8], layout: TsPacketLayout, count: usize) -> usize
@@ -67,7 +69,7 @@ fn start_behind(start: u64, n: usize) -> u64
 }
 
 // Only a packet with an adaptation field on the PCR PID is parsed, or one that is not known to lie in the recording. All before the
-// next such packet change the start alone, at once: to pass the whole struct on costs 10 ns a packet.
+// next such packet change the start alone, at once: 0.7 ns a packet, and 1.6 with a call of `other` for each.
 // Ruled out: a clock of the packets before the first that does not parse; a clock with the PCRs of another PID.
 #[tactic(auto, using(crate::proofs::Turns::starts, crate::proofs::Turns::all_passed, crate::proofs::Clock::build_keeps))]
 pub fn build(
@@ -75,12 +77,9 @@ pub fn build(
     layout: TsPacketLayout,
     count: usize,
     pcr_pid: u16,
-    depth: usize,
-    times: &mut [f64],
-    from: usize,
-    places: &mut [u64],
+    intervals: &mut IntervalsMut,
 ) -> Result<usize, Refusal>
-    ensures { Answers depth (pass_over pcr_pid depth from times.old places.old (parses_from layout bytes.now 0 count)) result times.new places.new }
+    ensures { Answers (pass_over pcr_pid intervals.old.depth intervals.old.times.now intervals.old.places.now (parses_from layout bytes.now 0 count)) result intervals.old intervals.new }
 {
     let mut pass = ClockPass::new();
     let whole = whole_packets(bytes, layout, count);
@@ -92,9 +91,9 @@ pub fn build(
         k = next;
         if k < count {
             let parsed = TsPacket::parse(packet::window(bytes, layout, k));
-            pass = pass.packet(parsed, pcr_pid, times, from, places, depth);
+            pass.packet(parsed, pcr_pid, intervals);
             k += 1;
         }
     }
-    pass.build.answer(depth)
+    pass.build.answer(intervals.depth)
 }

@@ -5,7 +5,7 @@ use Rattle.arrival_clock.proofs.Turns.{Leads}
 use Rattle.arrival_clock.proofs.build.Given as goal
 
 abbrev pub invariant-loop-k : goal.invariant-loop-k
-invariant-loop-k l = Leads l.pcr_pid l.depth l.from l.layout l.bytes l.count (pass_over l.pcr_pid l.depth l.from l.initial.times l.initial.places (parses_from l.layout l.bytes 0 l.count)) l.k l.pass l.times l.places
+invariant-loop-k l = Leads l.pcr_pid l.initial.intervals l.layout l.bytes l.count (pass_over l.pcr_pid l.initial.intervals.depth l.initial.intervals.times.now l.initial.intervals.places.now (parses_from l.layout l.bytes 0 l.count)) l.k l.pass l.intervals
 
 abbrev pub decreases-loop-k : goal.decreases-loop-k
 decreases-loop-k l = l.count - l.k

@@ -5,7 +5,7 @@ use Rattle.arrival.specs.Work.{advance}
 use Rattle.arrival.proofs.Cursor.advance.Given as goal
 
 abbrev pub invariant-loop-next : goal.invariant-loop-next
-invariant-loop-next l = advance l.times l.from l.places l.count l.initial.next l.pos ≡ advance l.times l.from l.places l.count l.next l.pos
+invariant-loop-next l = advance l.intervals.times.now l.intervals.places.now l.intervals.count l.initial.next l.pos ≡ advance l.intervals.times.now l.intervals.places.now l.intervals.count l.next l.pos
 
 abbrev pub decreases-loop-next : goal.decreases-loop-next
-decreases-loop-next l = l.count - 1 - l.next.index
+decreases-loop-next l = l.intervals.count - 1 - l.next.index
