@@ -30,7 +30,7 @@ use Rattle.branch.specs.CumulativeIn.{Inflow, settle, arrived_by, run_refused}
 use Rattle.branch.specs.Units.{open_of, grown}
 use Rattle.branch.specs.UnitsInWork.{unit_at, no_entries, no_units, removed_units}
 use Rattle.branch.specs.VideoStep.{VideoChain, VideoFed, close_au, VideoStep, video_step, end_step}
-use Rattle.branch.specs.VideoBranch.{VideoRates, Transfer, header_bytes, marks_left, transfer, Leak, Turned, looked, mb_fullness, leak_until, leak_events, Video, Advanced, remove_unit, remove_events, pushed_leak}
+use Rattle.branch.specs.VideoBranch.{VideoRates, Transfer, header_bytes, marks_left, transfer, Leak, Turned, since_seen, longest_seen, looked, mb_fullness, leak_until, leak_events, Video, Advanced, remove_unit, remove_events, pushed_leak}
 
 -- an entry's floats are the threshold and the bytes
 abbrev pub mark_of : List Float → HeaderMark
@@ -82,6 +82,18 @@ pub record LeakLies (w : List Float) (m : VideoLayout) (l : LeakState) : Type 0 
 pub record LeakIs (w : List Float) (m : VideoLayout) (r : LeakState) (s : Leak) : Type 0 where
   pub lies : LeakLies w m r
   pub state : leak_of w m r ≡ s
+
+-- MBn's fullness is seen at the leak's time
+unfoldable pub seen_state : LeakState → Float → LeakState
+seen_state l fullness =
+    record {
+      mb_in = l.mb_in;
+      flow = l.flow;
+      busy_since = since_seen l.busy_since (lt 1f fullness) l.proc_time;
+      longest_busy = longest_seen l.longest_busy l.busy_since (lt 1f fullness) l.proc_time;
+      mb_peak = max_of l.mb_peak fullness;
+      proc_time = l.proc_time;
+    }
 
 pub record LooksBy (w : List Float) (m : VideoLayout) (l : LeakState) (r : Looked) : Type 0 where
   pub leak : LeakIs w m r.leak (looked (leak_of w m l))

@@ -1,12 +1,12 @@
 // The leak of a video chain: bytes leave MBn at Rbxn, those of PES headers are dropped, and the others enter EBn (H.222.0, 2.4.2.3, leak
 // method).
-ghost use Rattle.std.specs.Prelude.{◌≡◌, true, cond, Float, Some, ◌≤◌};
-ghost use Rattle.std.specs.Float.{inf, binary64};
-ghost use Rattle.std.specs.Float.Ieee.{eq, sub};
+ghost use Rattle.std.specs.Prelude.{◌≡◌, cond, Float, Some, ◌≤◌};
+ghost use Rattle.std.specs.Float.Ieee.{eq, lt};
+ghost use Rattle.ieee.specs.Binary64.{◌⊖◌, 1f, -∞};
 ghost use Rattle.ieee.specs.MaxMin.{max_of};
 ghost use Rattle.branch.specs.Queue.{Lies};
-ghost use Rattle.branch.specs.VideoBranch.{overlap as overlapOf, since_seen, longest_seen, eb_room, mb_fullness, looked, stalled as stalledOf, paced as pacedOf, backlogged as backloggedOf, break, step as step_of, ran};
-ghost use Rattle.branch.specs.VideoInWork.{rates_of, flow_of, leak_of, HeadersBy, Transferred, LeakLies, LeakIs, LooksBy, TurnIs, SettledAt, TurnsEnd, ReachedBy, ClosedBy, LeaksTo};
+ghost use Rattle.branch.specs.VideoBranch.{overlap as overlapOf, eb_room, mb_fullness, looked, stalled as stalledOf, paced as pacedOf, backlogged as backloggedOf, break, step as step_of, ran};
+ghost use Rattle.branch.specs.VideoInWork.{rates_of, flow_of, leak_of, HeadersBy, Transferred, LeakLies, LeakIs, seen_state, LooksBy, TurnIs, SettledAt, TurnsEnd, ReachedBy, ClosedBy, LeaksTo};
 
 use crate::HeaderMark;
 use crate::inflow::CumulativeIn;
@@ -123,53 +123,49 @@ fn transfer(f: Flow, w: Place, work: &[f64], bytes: f64) -> Flow
     }
 }
 
-// Where the busy stretch began, once a fullness over a byte or not is seen now.
-fn since_seen(since: f64, over: bool, now: f64) -> f64
-    ensures { result ≡ since_seen since over now }
-{
-    if over {
-        if since == f64::NEG_INFINITY {
-            return now;
+impl Leak {
+    // Where MBn's busy stretch began: where there is none, a fullness over a byte begins one.
+    fn busy_from(self, fullness: f64) -> f64
+        ensures { result ≡ cond (eq self.busy_since -∞) (cond (lt 1f fullness) self.proc_time -∞) self.busy_since }
+    {
+        if self.busy_since == f64::NEG_INFINITY {
+            if fullness > 1.0 {
+                return self.proc_time;
+            }
+            return f64::NEG_INFINITY;
         }
-        return since;
+        self.busy_since
     }
-    f64::NEG_INFINITY
-}
 
-// The longest busy stretch, once a fullness over a byte or not is seen now.
-fn longest_seen(longest: f64, since: f64, over: bool, now: f64) -> f64
-    ensures { result ≡ longest_seen longest since over now }
-{
-    if over {
-        return longest;
-    }
-    if since == f64::NEG_INFINITY {
-        return longest;
-    }
-    max(longest, now - since)
-}
-
-// Where the busy stretch began, once EBn is full and MBn holds more than a byte, or not, at the end.
-fn since_stalled(since: f64, over: bool, now: f64) -> f64
-    ensures { result ≡ cond (eq since (inf true)) (cond over now (inf true)) since }
-{
-    if since == f64::NEG_INFINITY {
-        if over {
-            return now;
+    // The longest busy stretch, where one that has not ended counts up to t.
+    fn longest_until(self, t: f64) -> f64
+        ensures { result ≡ cond (eq self.busy_since -∞) self.longest_busy (max_of self.longest_busy (t ⊖ self.busy_since)) }
+    {
+        if self.busy_since == f64::NEG_INFINITY {
+            return self.longest_busy;
         }
-        return f64::NEG_INFINITY;
+        max(self.longest_busy, t - self.busy_since)
     }
-    since
-}
 
-// The longest busy stretch, where one that has not ended counts up to t.
-fn longest_until(longest: f64, since: f64, t: f64) -> f64
-    ensures { result ≡ cond (eq since (inf true)) longest (max_of longest (sub binary64 t since)) }
-{
-    if since == f64::NEG_INFINITY {
-        return longest;
+    // MBn's fullness at the leak's time: over a byte MBn is busy, and else its busy stretch ends.
+    fn seen(self, fullness: f64) -> Leak
+        ensures { result ≡ seen_state self fullness }
+    {
+        let mb_peak = max(self.mb_peak, fullness);
+        if fullness > 1.0 {
+            return Leak {
+                busy_since: self.busy_from(fullness),
+                mb_peak,
+                ..self
+            };
+        }
+        Leak {
+            busy_since: f64::NEG_INFINITY,
+            longest_busy: self.longest_until(self.proc_time),
+            mb_peak,
+            ..self
+        }
     }
-    max(longest, t - since)
 }
 
 // MBn at the leak's time: what waits there, its peak and its busy stretch.
@@ -177,18 +173,14 @@ fn look(l: Leak, m: VideoLayout, work: &[f64]) -> Looked
     requires { LeakLies work.now m l }
     ensures { LooksBy work.now m l result }
 {
-    let now = l.proc_time;
-    let got = l.mb_in.arrived_by(m.runs, work, now);
+    let got = l.mb_in.arrived_by(m.runs, work, l.proc_time);
     let available = got.total - l.flow.transferred;
-    let over = available > 1.0;
+    let settled = Leak {
+        mb_in: got.inflow,
+        ..l
+    };
     Looked {
-        leak: Leak {
-            mb_in: got.inflow,
-            busy_since: since_seen(l.busy_since, over, now),
-            longest_busy: longest_seen(l.longest_busy, l.busy_since, over, now),
-            mb_peak: max(l.mb_peak, available),
-            ..l
-        },
+        leak: settled.seen(available),
         available,
     }
 }
@@ -204,7 +196,7 @@ fn stalled(l: Leak, m: VideoLayout, work: &[f64], t: f64) -> Turned
         total: Some(got.total),
         leak: Leak {
             mb_in: got.inflow,
-            busy_since: since_stalled(l.busy_since, fullness > 1.0, l.proc_time),
+            busy_since: l.busy_from(fullness),
             mb_peak: max(l.mb_peak, fullness),
             proc_time: t,
             ..l
@@ -331,7 +323,7 @@ fn closed(l: Leak, m: VideoLayout, total: f64, t: f64, slots: &mut Slots, k: usi
         0.0,
     );
     Leak {
-        longest_busy: longest_until(l.longest_busy, l.busy_since, t),
+        longest_busy: l.longest_until(t),
         mb_peak: max(l.mb_peak, fullness),
         proc_time: max(l.proc_time, t),
         ..l

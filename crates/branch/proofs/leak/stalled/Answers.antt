@@ -15,7 +15,7 @@ returns c =
       more = refl;
       leak = record {
         lies = record { runs = g.after.lies; marks = c.requires.marks };
-        state = stalled_by S a.t _ _ _ _ g.after.state (full_by S a.t _ g.total) c.since_stalled.ensures c.max.ensures;
+        state = stalled_by S a.t _ _ _ _ g.after.state (full_by S a.t _ g.total) c.busy_from.ensures c.max.ensures;
       };
       seen = λ x f. rw (← some_is f) (settled_at_lem _ _ _ _ g.after.state g.total);
     }
