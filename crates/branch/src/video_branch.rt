@@ -33,49 +33,6 @@ pub struct VideoBranch {
     pub eb_required: f64,
 }
 
-// The first pending unit, u, is removed from EBn.
-fn remove(b: VideoBranch, m: VideoLayout, u: AccessUnit, slots: &mut Slots, k: usize) -> VideoBranch
-    requires head_lt_depth { (b.units.pending.head < m.units.depth) × (0 < b.units.pending.count) }
-    requires k_bound { (k ≤ 64) × (b.units.access_units < 18446744073709551615) }
-    ensures { RemovedBy m b u k slots.old slots.new result }
-{
-    let required = b.eb_required + u.bytes;
-    note_removal(b.leak.flow.eb_in, required, u, slots, k);
-    let mut next = b;
-    next.units.remove(m.units, u);
-    next.eb_required = required;
-    next.leak.flow.eb_removed = min(required, b.leak.flow.eb_in);
-    next
-}
-
-// The leak up to the frontier, with each unit removed that is due by then.
-fn advance(
-    b: VideoBranch,
-    m: VideoLayout,
-    work: &[f64],
-    frontier: f64,
-    slots: &mut Slots,
-    k: usize,
-) -> VideoBranch
-    requires video_lies { VideoLies work.now m b }
-    requires k_bound { (k ≤ 64) × (b.units.access_units + b.units.pending.count ≤ 18446744073709551615) }
-    ensures { AdvancedTo work.now m k b.units.open_au slots.old (advanceOf (rates_of m) frontier (video_of work.now m b)) result slots.new }
-{
-    let mut cur = b;
-    loop {
-        let due = cur.units.due(m.units, work, frontier);
-        let to = match due {
-            Some(u) => u.decode_time,
-            None => frontier,
-        };
-        cur.leak = leak_until(cur.leak, m, work, to, slots, k);
-        let Some(u) = due else {
-            return cur;
-        };
-        cur = remove(cur, m, u, slots, k);
-    }
-}
-
 // The rings lie in a work of len floats, the count of units has room, and the chain has slots.
 #[tactic(auto, unfolding(crate::specs::VideoInWork::ready))]
 fn ready(b: VideoBranch, p: VideoModel, len: usize, k: usize) -> bool
@@ -144,6 +101,46 @@ impl VideoBranch {
             units: Units::new(),
             queued: 0.0,
             eb_required: 0.0,
+        }
+    }
+
+    // The first pending unit, u, is removed from EBn.
+    fn remove(&mut self, m: VideoLayout, u: AccessUnit, slots: &mut Slots, k: usize)
+        requires head_lt_depth { (self.old.units.pending.head < m.units.depth) × (0 < self.old.units.pending.count) }
+        requires k_bound { (k ≤ 64) × (self.old.units.access_units < 18446744073709551615) }
+        ensures { RemovedBy m self.old u k slots.old slots.new self.new }
+    {
+        let required = self.eb_required + u.bytes;
+        note_removal(self.leak.flow.eb_in, required, u, slots, k);
+        self.units.remove(m.units, u);
+        self.eb_required = required;
+        self.leak.flow.eb_removed = min(required, self.leak.flow.eb_in);
+    }
+
+    // The leak up to the frontier, with each unit removed that is due by then.
+    fn advance(
+        &mut self,
+        m: VideoLayout,
+        work: &[f64],
+        frontier: f64,
+        slots: &mut Slots,
+        k: usize,
+    )
+        requires video_lies { VideoLies work.now m self.old }
+        requires k_bound { (k ≤ 64) × (self.old.units.access_units + self.old.units.pending.count ≤ 18446744073709551615) }
+        ensures { AdvancedTo work.now m k self.old.units.open_au slots.old (advanceOf (rates_of m) frontier (video_of work.now m self.old)) self.new slots.new }
+    {
+        loop {
+            let due = self.units.due(m.units, work, frontier);
+            let to = match due {
+                Some(u) => u.decode_time,
+                None => frontier,
+            };
+            self.leak = leak_until(self.leak, m, work, to, slots, k);
+            let Some(u) = due else {
+                return;
+            };
+            self.remove(m, u, slots, k);
         }
     }
 
@@ -249,7 +246,7 @@ impl VideoBranch {
             return Ok(());
         }
         let m = layout(p);
-        *self = advance(*self, m, work, t, slots, k);
+        self.advance(m, work, t, slots, k);
         self.deliver(m, work, d)
     }
 
@@ -270,7 +267,7 @@ impl VideoBranch {
         let m = layout(p);
         self.units.close(m.units, work)?;
         let end = max(self.leak.proc_time, 0.0) + self.queued / m.rbx + 2.0;
-        *self = advance(*self, m, work, end, slots, k);
+        self.advance(m, work, end, slots, k);
         let longest = self.leak.longest_busy;
         slots.note_kind_if(longest > 1.0 + 1e-6, k, EventKind::MbBusy, longest, 0.0);
         Ok(())

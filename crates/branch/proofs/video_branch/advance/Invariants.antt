@@ -1,9 +1,0 @@
--- `branch::video_branch::advance` meets its contract. Assumes nothing.
-use Rattle.branch.proofs.VideoAdvance.{Advancing}
-use Rattle.branch.proofs.video_branch.advance.Given as goal
-
-abbrev pub invariant-loop-u : goal.invariant-loop-u
-invariant-loop-u l = Advancing l.work l.m l.frontier l.k l.initial.cur l.initial.slots l.cur l.slots
-
-abbrev pub decreases-loop-u : goal.decreases-loop-u
-decreases-loop-u l = l.cur.units.pending.count

@@ -1,6 +1,0 @@
--- `branch::video_branch::remove` meets its contract. Assumes nothing.
-use Rattle.branch.proofs.VideoAdvance.{removed_by}
-use Rattle.branch.proofs.video_branch.remove.Goals as goal
-
-pub returns : goal.returns
-returns c = removed_by _ _ _ _ _ _ _ _ c.min-next.ensures c.remove.ensures c.note_removal.ensures
