@@ -14,7 +14,8 @@ use events::{EventKind, Slots};
 use ieee::{max, min};
 
 // What does not change: the rate Rbxn in bytes a second, the sizes MBSn and EBSn in bytes, and where the chain's part of the work begins,
-// with the depth of its three rings.
+// with the depth of its three rings. The slots are handed on beside k, where those of the chain begin: one Slots counts the events of all
+// chains in one order.
 #[derive(Clone, Copy)]
 pub struct VideoModel {
     pub rbx: f64,
@@ -118,14 +119,7 @@ impl VideoBranch {
     }
 
     // The leak up to the frontier, with each unit removed that is due by then.
-    fn advance(
-        &mut self,
-        m: VideoLayout,
-        work: &[f64],
-        frontier: f64,
-        slots: &mut Slots,
-        k: usize,
-    )
+    fn advance(&mut self, m: VideoLayout, work: &[f64], frontier: f64, slots: &mut Slots, k: usize)
         requires video_lies { VideoLies work.now m self.old }
         requires k_bound { (k ≤ 64) × (self.old.units.access_units + self.old.units.pending.count ≤ 18446744073709551615) }
         ensures { AdvancedTo work.now m k self.old.units.open_au slots.old (advanceOf (rates_of m) frontier (video_of work.now m self.old)) self.new slots.new }

@@ -13,9 +13,9 @@ returns c =
     let e = full_by S S.proc_time _ g.total in
     record {
       leak = rw c.seen.ensures
-      (record {
-        lies = record { runs = g.after.lies; marks = c.requires.marks };
-        state = look_by S _ _ _ _ _ g.after.state e refl refl refl;
-      });
+          (record {
+            lies = record { runs = g.after.lies; marks = c.requires.marks };
+            state = look_by S _ _ _ _ _ g.after.state e refl refl refl;
+          });
       available = e;
     }
