@@ -6,7 +6,7 @@ use mathlib.Core.Path.{◌≡◌, refl, sym, ap, ap₂, ◌∙◌}
 use mathlib.Core.List.{List}
 use mathlib.Core.Bool.{Bool, true, false, cond, false≢true, true≢false}
 use native.Mathlib.Omega.{arith}
-use native.Mathlib.Nat.{sub-zero}
+use native.Mathlib.Nat.{sub-zero, div-one}
 use lib.Dec.{eqb, ltb}
 use lib.ListN.{length, get_or}
 use borrow.Author.Tests.{lt-ltb, le-ltb, ne_eqb}
@@ -81,29 +81,33 @@ module _ (s : List ℕ) (h : Bytes s) where
     pub has_flags_lem : has_flags (field table_2_6 s) ≡ true
     has_flags_lem = laws.has_flags_lem s (h 0) k.some
 
+    -- bit a of it
+    flag_bit : (a : ℕ) {v : ℕ} → v ≡ cond (has_flags (field table_2_6 s)) (bits s (8 + a) 1) 0 → a < 8 → eqb v 1 ≡ eqb (f / 2 ^ (7 - a) % 2) 1
+    flag_bit a e l = rw k.flags (ap (λ (x : ℕ). eqb x 1) (laws.flag_byte s a e has_flags_lem l))
+
     discontinuity_on : is_set s "discontinuity_indicator" ≡ eqb (f / 128 % 2) 1
-    discontinuity_on = rw k.flags (fields.discontinuity_flag s has_flags_lem)
+    discontinuity_on = flag_bit 0 (laws.discontinuity_indicator s) (omega arith)
 
     random_access_on : is_set s "random_access_indicator" ≡ eqb (f / 64 % 2) 1
-    random_access_on = rw k.flags (fields.random_access_flag s has_flags_lem)
+    random_access_on = flag_bit 1 (laws.random_access_indicator s) (omega arith)
 
     priority_on : is_set s "elementary_stream_priority_indicator" ≡ eqb (f / 32 % 2) 1
-    priority_on = rw k.flags (fields.priority_flag s has_flags_lem)
+    priority_on = flag_bit 2 (laws.elementary_stream_priority_indicator s) (omega arith)
 
     pub pcr_on : is_set s "PCR_flag" ≡ eqb (f / 16 % 2) 1
-    pcr_on = rw k.flags (fields.pcr_flag s has_flags_lem)
+    pcr_on = flag_bit 3 (laws.pcr_flag s) (omega arith)
 
     pub opcr_on : is_set s "OPCR_flag" ≡ eqb (f / 8 % 2) 1
-    opcr_on = rw k.flags (fields.opcr_flag s has_flags_lem)
+    opcr_on = flag_bit 4 (laws.opcr_flag s) (omega arith)
 
     pub countdown_on : is_set s "splicing_point_flag" ≡ eqb (f / 4 % 2) 1
-    countdown_on = rw k.flags (fields.splicing_flag s has_flags_lem)
+    countdown_on = flag_bit 5 (laws.splicing_point_flag s) (omega arith)
 
     pub private_on : is_set s "transport_private_data_flag" ≡ eqb (f / 2 % 2) 1
-    private_on = rw k.flags (fields.private_flag s has_flags_lem)
+    private_on = flag_bit 6 (laws.transport_private_data_flag s) (omega arith)
 
     pub extension_on : is_set s "adaptation_field_extension_flag" ≡ eqb (f % 2) 1
-    extension_on = rw k.flags (fields.extension_flag_lem s has_flags_lem)
+    extension_on = flag_bit 7 (laws.adaptation_field_extension_flag s) (omega arith) ∙ rw (div-one f)
 
     module _ (p : Places) (at : Placed s p) where
       pub private_count : is_set s "transport_private_data_flag" ≡ true → read s "transport_private_data_length" ≡ get_or s p.private_length 0
@@ -136,10 +140,10 @@ module _ (s : List ℕ) (h : Bytes s) where
                 (get_or s p.private_length 0) (is_set s "transport_private_data_flag") (eqb (f / 2 % 2) 1) _ private_on private_start private_count,
           )
 
-      clock : (b e o a : ℕ) → b ≡ bits s o 33 → e ≡ bits s (o + 39) 9 → o ≡ 8 * a
+      -- a clock reference that is there from byte a on, by its flag and the place that the table gives it
+      clock : (b e o : ℕ) (on : Bool) (a : ℕ) → b ≡ cond on (bits s o 33) 0 → e ≡ cond on (bits s (o + 39) 9) 0 → on ≡ true → o ≡ 8 * a
           → ◌≡◌ {A = Option ClockReference} (Some (record { base = b; extension = e })) (Some (clock_at s a))
-      clock b e o a eb ee q =
-          λ i. Some (record { base = (eb ∙ ap (λ (x : ℕ). bits s x 33) q) i; extension = (ee ∙ ap (λ (x : ℕ). bits s (x + 39) 9) q) i })
+      clock b e o on a eb ee set q = rw (eb, ee, set, q)
 
       private_data : {a b n m : ℕ} → a ≡ b → n ≡ m → ◌≡◌ {A = Option PrivateData} (Some (record { start = a; len = n })) (Some (record { start = b; len = m }))
       private_data e f = λ i. Some (record { start = e i; len = f i })
@@ -176,10 +180,12 @@ module _ (s : List ℕ) (h : Bytes s) where
             elementary_stream_priority_indicator = priority_on i;
             pcr =
                 same_choice (is_set s "PCR_flag") (eqb (f / 16 % 2) 1) _ _ None pcr_on
-                (λ on. clock _ _ _ 2 (fields.pcr_base s on) (fields.pcr_extension s on) (fields.at_pcr s has_flags_lem h on)) i;
+                (λ on. clock _ _ _ _ 2 (laws.program_clock_reference_base s) (laws.program_clock_reference_extension s) on (fields.pcr_place s has_flags_lem h))
+                i;
             opcr =
                 same_choice (is_set s "OPCR_flag") (eqb (f / 8 % 2) 1) _ _ None opcr_on
-                (λ on. clock _ _ _ p.opcr (fields.opcr_base s on) (fields.opcr_extension s on) (at.opcr on)) i;
+                (λ on. clock _ _ _ _ p.opcr (laws.original_program_clock_reference_base s) (laws.original_program_clock_reference_extension s) on
+                (sym (fields.opcr_offset s on) ∙ at.opcr on)) i;
             splice_countdown =
                 same_choice (is_set s "splicing_point_flag") (eqb (f / 4 % 2) 1) _ _ None countdown_on
                 (λ on. ap (λ (v : ℕ). Some (tcimsbf8 v)) (fields.countdown_read s on ∙ ap (λ (o : ℕ). bits s o 8) (at.splice on)))

@@ -1,12 +1,11 @@
--- Where the code finds the fields of table 2-6: the flags in byte 1, each optional field at its own place or behind the one before it.
+-- Where the code finds the fields of table 2-6: each optional field at its own place or behind the one before it.
 -- Assumes nothing.
-use Prim.Native.Nat.{ℕ, ◌+◌, ◌-◌, ◌*◌, ◌/◌, ◌%◌, ◌^◌, ◌<◌}
+use Prim.Native.Nat.{ℕ, ◌+◌, ◌*◌}
 use Prim.Native.String.{String}
 use mathlib.Core.Path.{◌≡◌, refl, sym, ap, ap₂, ◌∙◌}
 use mathlib.Core.List.{List}
 use mathlib.Core.Bool.{Bool, true, false, cond, ◌&&◌, false≢true}
 use native.Mathlib.Omega.{arith}
-use native.Mathlib.Nat.{div-one}
 use lib.Dec.{eqb}
 use lib.ListN.{get_or, drop}
 use Rattle.syntax.specs.Bits.{bits}
@@ -39,36 +38,6 @@ module _ (s : List ℕ) where
   -- a flag that stands before row k is set there as in the whole
   set_before : (k : ℕ) (n : String) → absent n (drop k table_2_6) ≡ true → is_set s n ≡ true → flag n (before table_2_6 s k) ≡ true
   set_before k n a on = ap (λ (v : ℕ). eqb v 1) (field_before table_2_6 s k n a) ∙ on
-
-  -- the flags, by byte 1; none in a field of length 0
-  flag_bit : (a : ℕ) {v : ℕ} → v ≡ cond (has_flags (field table_2_6 s)) (bits s (8 + a) 1) 0 → has_flags (field table_2_6 s) ≡ true → a < 8
-      → eqb v 1 ≡ eqb (get_or s 1 0 / 2 ^ (7 - a) % 2) 1
-  flag_bit a e h l = ap (λ (x : ℕ). eqb x 1) (laws.flag_byte s a e h l)
-
-  module _ (long : has_flags (field table_2_6 s) ≡ true) where
-    pub discontinuity_flag : is_set s "discontinuity_indicator" ≡ eqb (get_or s 1 0 / 128 % 2) 1
-    discontinuity_flag = flag_bit 0 (laws.discontinuity_indicator s) long (omega arith)
-
-    pub random_access_flag : is_set s "random_access_indicator" ≡ eqb (get_or s 1 0 / 64 % 2) 1
-    random_access_flag = flag_bit 1 (laws.random_access_indicator s) long (omega arith)
-
-    pub priority_flag : is_set s "elementary_stream_priority_indicator" ≡ eqb (get_or s 1 0 / 32 % 2) 1
-    priority_flag = flag_bit 2 (laws.elementary_stream_priority_indicator s) long (omega arith)
-
-    pub pcr_flag : is_set s "PCR_flag" ≡ eqb (get_or s 1 0 / 16 % 2) 1
-    pcr_flag = flag_bit 3 (laws.pcr_flag s) long (omega arith)
-
-    pub opcr_flag : is_set s "OPCR_flag" ≡ eqb (get_or s 1 0 / 8 % 2) 1
-    opcr_flag = flag_bit 4 (laws.opcr_flag s) long (omega arith)
-
-    pub splicing_flag : is_set s "splicing_point_flag" ≡ eqb (get_or s 1 0 / 4 % 2) 1
-    splicing_flag = flag_bit 5 (laws.splicing_point_flag s) long (omega arith)
-
-    pub private_flag : is_set s "transport_private_data_flag" ≡ eqb (get_or s 1 0 / 2 % 2) 1
-    private_flag = flag_bit 6 (laws.transport_private_data_flag s) long (omega arith)
-
-    pub extension_flag_lem : is_set s "adaptation_field_extension_flag" ≡ eqb (get_or s 1 0 % 2) 1
-    extension_flag_lem = flag_bit 7 (laws.adaptation_field_extension_flag s) long (omega arith) ∙ rw (div-one (get_or s 1 0))
 
   -- in a field of length 0 no flag is set
   module _ (short : has_flags (field table_2_6 s) ≡ false) where
@@ -105,22 +74,10 @@ module _ (s : List ℕ) where
     unfolding offset_from table_2_6
     pcr_offset = offset_from_lem table_2_6 s 9 "program_clock_reference_base" refl ∙ first _ _ _ (set_before 9 "PCR_flag" refl on)
 
-    pub pcr_base : read s "program_clock_reference_base" ≡ bits s (at "program_clock_reference_base") 33
-    pcr_base = laws.program_clock_reference_base s ∙ rw (on, pcr_offset)
-
-    pub pcr_extension : read s "program_clock_reference_extension" ≡ bits s (at "program_clock_reference_base" + 39) 9
-    pcr_extension = laws.program_clock_reference_extension s ∙ rw (on, pcr_offset)
-
   module _ (on : is_set s "OPCR_flag" ≡ true) where
-    opcr_offset : at "original_program_clock_reference_base" ≡ laws.opcr_at s
+    pub opcr_offset : at "original_program_clock_reference_base" ≡ laws.opcr_at s
     unfolding offset_from table_2_6
     opcr_offset = offset_from_lem table_2_6 s 12 "original_program_clock_reference_base" refl ∙ first _ _ _ (set_before 12 "OPCR_flag" refl on)
-
-    pub opcr_base : read s "original_program_clock_reference_base" ≡ bits s (at "original_program_clock_reference_base") 33
-    opcr_base = laws.original_program_clock_reference_base s ∙ rw (on, opcr_offset)
-
-    pub opcr_extension : read s "original_program_clock_reference_extension" ≡ bits s (at "original_program_clock_reference_base" + 39) 9
-    opcr_extension = laws.original_program_clock_reference_extension s ∙ rw (on, opcr_offset)
 
   module _ (on : is_set s "splicing_point_flag" ≡ true) where
     countdown_offset : at "splice_countdown" ≡ laws.splice_at s
@@ -241,7 +198,7 @@ module _ (s : List ℕ) where
     abbrev pub at_extension : ℕ
     at_extension = cond (is_set s "transport_private_data_flag") (at_private + (1 + get_or s at_private 0)) at_private
 
-    pcr_place : laws.pcr_at s ≡ 8 * 2
+    pub pcr_place : laws.pcr_at s ≡ 8 * 2
     pcr_place = laws.pcr_place s ∙ rw long
 
     opcr_place : laws.opcr_at s ≡ 8 * at_opcr

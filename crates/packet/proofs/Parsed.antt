@@ -1,12 +1,13 @@
 -- What a parse that succeeds has: a PID of 13 bits, a payload start from 4 to 188, clock references of 33 and 9 bits.
 -- Assumes nothing.
 use Prim.Native.Nat.{ℕ, ◌+◌, ◌*◌, ◌^◌, ◌<◌, ◌≤◌}
-use mathlib.Core.Path.{◌≡◌, refl, ap, subst, ◌∙◌}
+use mathlib.Core.Path.{◌≡◌, refl, sym, ap, subst, ◌∙◌}
 use mathlib.Core.Bool.{Bool, true, false, cond}
 use mathlib.Core.List.{List}
 use native.Mathlib.Omega.{arith}
 use lib.ListN.{length, take, drop}
 use borrow.Author.Tests.{ltb-false}
+use Rattle.syntax.specs.Bits.{bits}
 use Rattle.syntax.specs.Table.{field}
 use Rattle.syntax.specs.Packet.{table_2_2}
 use Rattle.syntax.proofs.Bits.{bound}
@@ -85,21 +86,11 @@ pub record Small (c : ClockReference) : Type 0 where
   pub base : c.base < 2 ^ 33
   pub extension : c.extension < 512
 
-module _ (raw : List ℕ) where
-  pcr_small : Small (pcr_of raw)
-  pcr_small =
-      record {
-        base = small (is_set raw "PCR_flag") _ _ (2 ^ 33) (laws.program_clock_reference_base raw) (bound raw (laws.pcr_at raw) 33);
-        extension = small (is_set raw "PCR_flag") _ _ 512 (laws.program_clock_reference_extension raw) (bound raw (laws.pcr_at raw + 39) 9);
-      }
-
-  opcr_small : Small (opcr_of raw)
-  opcr_small =
-      record {
-        base = small (is_set raw "OPCR_flag") _ _ (2 ^ 33) (laws.original_program_clock_reference_base raw) (bound raw (laws.opcr_at raw) 33);
-        extension =
-            small (is_set raw "OPCR_flag") _ _ 512 (laws.original_program_clock_reference_extension raw) (bound raw (laws.opcr_at raw + 39) 9);
-      }
+-- a clock reference by its flag and its place
+small_clock : (raw : List ℕ) (on : Bool) (at : ℕ) (c : ClockReference) → c.base ≡ cond on (bits raw at 33) 0
+    → c.extension ≡ cond on (bits raw (at + 39) 9) 0 → Small c
+small_clock raw on at c b e =
+    record { base = small on _ _ (2 ^ 33) b (bound raw at 33); extension = small on _ _ 512 e (bound raw (at + 39) 9) }
 
 pub record Parsed (h : TsPacket) : Type 0 where
   pub pid_small : h.pid < 8192
@@ -143,13 +134,21 @@ module _ (raw : List ℕ) (f : AdaptationField) (c : ClockReference)
   values : adaptation_field_of raw ≡ f
   values = cc
 
+  there : (get : AdaptationField → Option ClockReference) (on : Bool) (r : ClockReference)
+      → get (adaptation_field_of raw) ≡ cond on (Some r) None → Small r → get f ≡ Some c → Small c
+  there get on r e s b = subst Small (cond_some on r c (sym e ∙ ap get values ∙ b)).1 s
+
   pcr_there : f.pcr ≡ Some c → Small c
   unfolding adaptation_field_of
-  pcr_there b = subst Small (cond_some (is_set raw "PCR_flag") (pcr_of raw) c (ap (λ (g : AdaptationField). g.pcr) values ∙ b)).1 (pcr_small raw)
+  pcr_there =
+      there (λ (g : AdaptationField). g.pcr) (is_set raw "PCR_flag") (pcr_of raw) refl
+      (small_clock raw _ _ _ (laws.program_clock_reference_base raw) (laws.program_clock_reference_extension raw))
 
   opcr_there : f.opcr ≡ Some c → Small c
   unfolding adaptation_field_of
-  opcr_there b = subst Small (cond_some (is_set raw "OPCR_flag") (opcr_of raw) c (ap (λ (g : AdaptationField). g.opcr) values ∙ b)).1 (opcr_small raw)
+  opcr_there =
+      there (λ (g : AdaptationField). g.opcr) (is_set raw "OPCR_flag") (opcr_of raw) refl
+      (small_clock raw _ _ _ (laws.original_program_clock_reference_base raw) (laws.original_program_clock_reference_extension raw))
 
 pub parsed : (w : List ℕ) (h : TsPacket) → parse_of w ≡ Ok h → Parsed h
 parsed w h is = go (shape w h is)
