@@ -152,6 +152,7 @@ fn clock_extension(p4: u8, p5: u8) -> u16
     u16::from(p4 % 2) * 256 + u16::from(p5)
 }
 
+#[tactic(auto, using(syntax::proofs::Bytes::clock_base, syntax::proofs::Bytes::clock_extension))]
 fn clock_at(raw: &[u8], at: usize) -> ClockReference
     requires { at < 1000 }
     ensures { result ≡ clock_at raw.now at }
@@ -176,6 +177,7 @@ fn countdown_at(raw: &[u8], at: usize) -> i8
     byte_or_zero(raw, at).cast_signed()
 }
 
+#[tactic(auto, using(syntax::proofs::Bits::byte))]
 fn private_data_at(raw: &[u8], at: usize) -> PrivateData
     requires { at < 1000 }
     ensures { result ≡ private_data_at raw.now at }
@@ -186,6 +188,7 @@ fn private_data_at(raw: &[u8], at: usize) -> PrivateData
     }
 }
 
+#[tactic(auto, using(syntax::proofs::Bytes::head, syntax::proofs::Bytes::number15))]
 fn ltw_at(raw: &[u8], at: usize) -> Ltw
     requires { at < 1000 }
     ensures { result ≡ ltw_at raw.now at }
@@ -197,6 +200,7 @@ fn ltw_at(raw: &[u8], at: usize) -> Ltw
     }
 }
 
+#[tactic(auto, using(syntax::proofs::Bytes::number22))]
 fn rate_at(raw: &[u8], at: usize) -> u32
     requires { at < 1000 }
     ensures { result ≡ bits raw.now (8 * at + 2) 22 }
@@ -206,6 +210,7 @@ fn rate_at(raw: &[u8], at: usize) -> u32
         + u32::from(byte_or_zero(raw, at + 2))
 }
 
+#[tactic(auto, using(syntax::proofs::Bytes::head, syntax::proofs::Bytes::stamp, syntax::proofs::TimeStamp::timestamp_of))]
 fn splice_at(raw: &[u8], at: usize) -> SeamlessSplice
     requires { at < 1000 }
     ensures { result ≡ splice_at raw.now at }
@@ -283,6 +288,7 @@ fn field_room(raw: &[u8], f: u8, p: Places) -> Result<(), Truncated>
 }
 
 // The extension whose length byte stands at `at`; one of length 0 has no flags.
+#[tactic(auto, using(crate::proofs::ByPlaces::empty_extension))]
 fn extension_at(raw: &[u8], at: usize) -> AdaptationFieldExtension
     requires { Extended raw.now at }
     ensures { result ≡ extension_of raw.now }
@@ -336,6 +342,7 @@ fn flagged_field(raw: &[u8], f: u8, p: Places) -> AdaptationField
 // Whether the adaptation field that is the whole of `raw`, its length byte first, holds every part that it flags.
 // Most fields have no part but a PCR, which is seen first.
 // Ruled out: room for a PCR in a field of length 1; no room in a field of length 0.
+#[tactic(auto, using(crate::proofs::ByPlaces::empty_field_room, crate::proofs::ByPlaces::short_field_room, crate::proofs::ByPlaces::flagged_field_room, crate::proofs::ByPlaces::pcr_room))]
 pub fn adaptation_field_room(raw: &[u8]) -> Result<(), Truncated>
     ensures { result ≡ field_room raw.now }
 {
@@ -357,6 +364,7 @@ pub fn adaptation_field_room(raw: &[u8]) -> Result<(), Truncated>
 }
 
 // The values of an adaptation field; one of length 0 has no flags.
+#[tactic(auto, using(crate::proofs::ByPlaces::empty_field))]
 fn adaptation_field_of(raw: &[u8]) -> AdaptationField
     ensures { result ≡ adaptation_field_of raw.now }
 {
@@ -402,6 +410,7 @@ pub fn pid_of(b1: u8, b2: u8) -> u16
     u16::from(b1 % 32) * 256 + u16::from(b2)
 }
 
+#[tactic(auto, using(crate::proofs::Header::packet_by))]
 fn with_header(bytes: &[u8], f: Option<AdaptationField>, from: usize) -> TsPacket
     requires { (188 ≤ length bytes.now) × (from ≤ 188) }
     ensures { result ≡ packet_of bytes.now f from }
@@ -423,6 +432,7 @@ fn with_header(bytes: &[u8], f: Option<AdaptationField>, from: usize) -> TsPacke
 
 impl TsPacket {
     // Ruled out: a PID with a bit of the flags before it; a packet whose adaptation field ends behind byte 188.
+    #[tactic(auto, using(crate::proofs::Cases::truncated, crate::proofs::Header::parse_sync, crate::proofs::Header::parse_bare, crate::proofs::Header::parse_over))]
     pub fn parse(bytes: &[u8]) -> Result<TsPacket, TsError>
         ensures { result ≡ parse_of bytes.now }
     {
@@ -509,6 +519,7 @@ impl TsPacketLayout {
 }
 
 // At least two whole packets, and the sync byte in each of the first eight.
+#[tactic(auto, using(crate::proofs::Grid::grid_few, crate::proofs::Grid::grid_not))]
 fn on_grid(buf: &[u8], size: usize, off: usize) -> bool
     requires { (off < size) × (size ≤ 204) }
     ensures { result ≡ on_grid buf.now size off }
@@ -545,6 +556,7 @@ pub fn detect_packet_layout(buf: &[u8]) -> Option<TsPacketLayout>
 
 // The 188 bytes from a place on; none where the recording ends sooner.
 // Ruled out: a shorter part at the recording's end; one that begins elsewhere.
+#[tactic(auto, using(crate::proofs::Parts::window_fits))]
 pub fn window_at(bytes: &[u8], from: usize) -> &[u8]
     ensures { result.now ≡ cond (leb (from + 188) (length bytes.now)) (take 188 (drop from bytes.now)) [] }
 {
@@ -561,6 +573,7 @@ pub fn window_at(bytes: &[u8], from: usize) -> &[u8]
 
 // The 188 bytes of packet k.
 // Ruled out: a part that holds bytes of the prefix; a shorter part at the recording's end.
+#[tactic(auto, unfolding(crate::specs::Layout::window_of), using(crate::proofs::Parts::window_short, crate::proofs::Parts::past_length))]
 pub fn window(bytes: &[u8], layout: TsPacketLayout, k: usize) -> &[u8]
     ensures { result.now ≡ window_of bytes.now layout.packet_size layout.sync_offset k }
 {

@@ -1,21 +1,15 @@
 -- `packet::extension_at` meets its contract. The extension by places, or the empty one of length 0. Assumes nothing.
 use Rattle.packet.proofs.Slices.{of_slice}
-use Rattle.packet.proofs.ByPlaces.{empty_extension, extension_by, then_is}
+use Rattle.packet.proofs.ByPlaces.{extension_by, then_is}
 use lib.ListN.{get_or}
 use Prim.Native.Nat.{◌+◌, ◌*◌, ◌<◌}
-use mathlib.Core.Path.{◌≡◌, sym, ◌∙◌}
+use mathlib.Core.Path.{◌≡◌}
 use native.Mathlib.Omega.{arith}
 use Rattle.std.specs.Prelude.{IfSome}
 use borrow.Author.Rules.{rules}
 use Rattle.syntax.specs.Bits.{bits}
 use Rattle.packet.specs.Places.{ltw_at, splice_at}
 use Rattle.packet.proofs.extension_at.Goals as goal
-
-pub returns-then-length-eq0 : goal.returns-then-length-eq0
-returns-then-length-eq0 c =
-    let s = c.args.raw.now in
-    let h = of_slice s c.type_inv.raw in
-    sym (empty_extension s h c.args.at c.requires (sym c.byte_or_zero-length.ensures ∙ c.if-length-eq0.true))
 
 pub returns : goal.returns
 returns c =

@@ -1,16 +1,10 @@
 -- `packet::on_grid` meets its contract. The packets before the loop's have the sync byte. Assumes nothing.
-use Rattle.packet.proofs.Grid.{grid_few, grid_is, grid_not}
+use Rattle.packet.proofs.Grid.{grid_is}
 use lib.ListN.{length}
 use mathlib.Core.Path.{◌≡◌}
 use native.Mathlib.Omega.{arith}
 use Prim.Native.Nat.{◌/◌, min}
 use Rattle.packet.proofs.on_grid.Goals as goal
-
-pub returns-then-whole-lt2 : goal.returns-then-whole-lt2
-returns-then-whole-lt2 c = grid_few _ _ _ (omega (arith, c.if-whole-lt2.true))
-
-pub returns-then-buf-k-ne71 : goal.returns-then-buf-k-ne71
-returns-then-buf-k-ne71 c = grid_not _ _ _ (omega arith) c.loop-k.k (omega (arith, c.min-k-end.ensures)) c.if-buf-k-ne71.true
 
 pub returns : goal.returns
 returns c =

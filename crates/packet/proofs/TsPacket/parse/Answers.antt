@@ -1,27 +1,11 @@
 -- `packet::TsPacket::parse` meets its contract. Each answer is one of the ways of `Cases`. Assumes nothing.
 use Rattle.packet.proofs.Slices.{of_slice}
-use Rattle.packet.proofs.Cases.{truncated}
-use Rattle.packet.proofs.Header.{parse_sync, parse_bare, parse_over, parse_field}
+use Rattle.packet.proofs.Header.{parse_field}
 use Rattle.packet.specs.Packet.{with_field}
 use Rattle.std.specs.Prelude.{Ok}
 use Rattle.std.proofs.lemmas.Result.{err_from_is_err_and}
 use mathlib.Core.Path.{sym, ap, ◌∙◌}
 use Rattle.packet.proofs.TsPacket.parse.Goals as goal
-
-pub returns-then-bytes-lt188 : goal.returns-then-bytes-lt188
-returns-then-bytes-lt188 c = sym (truncated c.args.bytes.now c.if-bytes-lt188.true)
-
-pub returns-then-sync-ne71 : goal.returns-then-sync-ne71
-returns-then-sync-ne71 c =
-    let w = c.args.bytes.now in
-    let h = of_slice w c.type_inv.bytes in
-    sym (parse_sync w h c.if-bytes-lt188.false c.if-sync-ne71.true)
-
-pub returns-then-end-gt188 : goal.returns-then-end-gt188
-returns-then-end-gt188 c =
-    let w = c.args.bytes.now in
-    let h = of_slice w c.type_inv.bytes in
-    sym (parse_over w h c.if-bytes-lt188.false c.if-sync-ne71.false c.if-bytes-eq1.true c.from-total.result c.from-total.ensures c.if-end-gt188.true)
 
 pub returns-in_err-f : goal.returns-in_err-f
 unfolding with_field
@@ -39,9 +23,3 @@ returns-then-bytes-eq1 c =
     let h = of_slice w c.type_inv.bytes in
     let p = parse_field w h c.if-bytes-lt188.false c.if-sync-ne71.false c.if-bytes-eq1.true c.from-total.result c.from-total.ensures c.if-end-gt188.false _ c.parse_adaptation_field.ensures in
     ap Ok c.with_header.ensures ∙ sym (rw c.in_ok-f.was at p)
-
-pub returns : goal.returns
-returns c =
-    let w = c.args.bytes.now in
-    let h = of_slice w c.type_inv.bytes in
-    ap Ok c.with_header-2.ensures ∙ sym (parse_bare w h c.if-bytes-lt188.false c.if-sync-ne71.false c.if-bytes-eq1.false)
