@@ -1,10 +1,10 @@
--- A figure of each element of an array, and the length of an array that is a field.
+-- A figure of each element of an array.
 -- Assumes nothing.
 use Prim.Native.Nat.{ℕ, zero, suc, ◌<◌}
-use mathlib.Core.Path.{◌≡◌, refl, sym, ap, ◌∙◌}
+use mathlib.Core.Path.{◌≡◌, refl, ap}
 use mathlib.Core.List.{List, [], ◌∷◌, map}
 use native.Mathlib.Omega.{arith}
-use lib.ListN.{length, take, get_or, length-map}
+use lib.ListN.{length, take, get_or}
 
 -- a list with what f gives of each element
 pub map_by_index : {A : Type 0} (f : A → ℕ) (d : A) (l : List A) (copy : List ℕ) → length copy ≡ length l → ((i : ℕ) → i < length l → get_or copy i 0 ≡ f (get_or l i d)) → copy ≡ map f l
@@ -20,7 +20,3 @@ pub take_map : {A : Type 0} (f : A → ℕ) (n : ℕ) (l : List A) → take n (m
 take_map f zero l = refl
 take_map f (suc n) [] = refl
 take_map f (suc n) (a ∷ l) = ap (λ (r : List ℕ). f a ∷ r) (take_map f n l)
-
--- the length of an array of structs that is a field, from what is known of the struct
-pub length_of_map : {A B : Type 0} (f : A → B) (l : List A) (n : ℕ) → length (map f l) ≡ n → length l ≡ n
-length_of_map f l n e = sym (length-map l f) ∙ e

@@ -8,13 +8,13 @@ use native.Mathlib.Omega.{arith}
 use borrow.Author.Tests.{leb-true, leb-false, le-leb, lt-leb}
 use lib.Dec.{leb, eqb}
 use Rattle.std.specs.Prelude.{Ok, Err}
+use Rattle.std.proofs.lemmas.Bool.{and_parts, and_from}
 use Rattle.error.specs.declared.Refusal.{Refusal}
 use Rattle.profile.specs.declared.config.TStdConfig.{TStdConfig}
 use Rattle.profile.specs.declared.limits.Limits.{Limits}
 use Rattle.profile.specs.declared.work.WorkSize.{WorkSize}
 use Rattle.profile.specs.Limits.{within_limits}
 use Rattle.profile.specs.Work.{times_needed, needed_of, covers, check_of}
-use Rattle.profile.proofs.Ranges.{and_left, and_right, and_both}
 use Rattle.profile.proofs.Within.{Within, NoLarger, limits_larger}
 
 same_test : (a b x y : ℕ) (t : Bool) → leb a b ≡ t → (a ≤ b → x ≤ y) → (b < a → y < x) → leb a b ≡ leb x y
@@ -75,18 +75,18 @@ module _ (lent needed : WorkSize) where
   pub covers_covered : covers lent needed ≡ true → Covered lent needed
   unfolding covers
   covers_covered e =
-      let both = and_left (first && second) third e in
+      let both = (and_parts (first && second) third e).0 in
       record {
-        times = leb-true needed.times lent.times (and_left first second both);
-        places = leb-true needed.places lent.places (and_right first second both);
-        row = leb-true needed.row lent.row (and_right (first && second) third e);
+        times = leb-true needed.times lent.times (and_parts first second both).0;
+        places = leb-true needed.places lent.places (and_parts first second both).1;
+        row = leb-true needed.row lent.row (and_parts (first && second) third e).1;
       }
 
   pub covered_covers : Covered lent needed → covers lent needed ≡ true
   unfolding covers
   covered_covers h =
-      and_both (first && second) third
-      (and_both first second (le-leb needed.times lent.times h.times) (le-leb needed.places lent.places h.places))
+      and_from (first && second) third
+      (and_from first second (le-leb needed.times lent.times h.times) (le-leb needed.places lent.places h.places))
       (le-leb needed.row lent.row h.row)
 
   pub not_covers : (Covered lent needed → ⊥) → covers lent needed ≡ false

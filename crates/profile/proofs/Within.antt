@@ -10,6 +10,7 @@ use lib.Dec.{leb}
 use lib.ListN.{length, get_or}
 use lib.Seq.{length-take-le, get_or-take}
 use Rattle.std.specs.List.{list_all}
+use Rattle.std.proofs.lemmas.Bool.{and_parts, and_from}
 use Rattle.std.proofs.lemmas.List.Elements.{All-from_get_or}
 use Rattle.std.proofs.lemmas.List.Sums.{AllPass-from_list_all, list_all-from_AllPass}
 use Rattle.profile.specs.declared.model.TStdBranch.{TStdBranch}
@@ -21,7 +22,7 @@ use Rattle.profile.specs.Range.{max_pid, max_streams, max_system_pids, min_queue
 use Rattle.profile.specs.Model.{branch_ok}
 use Rattle.profile.specs.Config.{stream_ok, unused_stream, streams_of, system_pids}
 use Rattle.profile.specs.Limits.{within_limits}
-use Rattle.profile.proofs.Ranges.{Between, RateWithin, SizeWithin, between_true, true_between, rate_true, true_rate, size_true, true_size, and_left, and_right, and_both}
+use Rattle.profile.proofs.Ranges.{Between, RateWithin, SizeWithin, between_true, true_between, rate_true, true_rate, size_true, true_size}
 
 abbrev pub BranchWithin : TStdBranch → Type 0
 BranchWithin (Main size) = SizeWithin size
@@ -45,15 +46,15 @@ branch_true : (b : TStdBranch) → branch_ok b ≡ true → BranchWithin b
 unfolding branch_ok
 branch_true (Main size) e = size_true size e
 branch_true (Video rbx mb eb) e =
-    let both = and_left (rate_ok rbx && size_ok mb) (size_ok eb) e in
-    (rate_true rbx (and_left (rate_ok rbx) (size_ok mb) both), (size_true mb (and_right (rate_ok rbx) (size_ok mb) both), size_true eb (and_right (rate_ok rbx && size_ok mb) (size_ok eb) e)))
+    let both = (and_parts (rate_ok rbx && size_ok mb) (size_ok eb) e).0 in
+    (rate_true rbx (and_parts (rate_ok rbx) (size_ok mb) both).0, (size_true mb (and_parts (rate_ok rbx) (size_ok mb) both).1, size_true eb (and_parts (rate_ok rbx && size_ok mb) (size_ok eb) e).1))
 
 true_branch : (b : TStdBranch) → BranchWithin b → branch_ok b ≡ true
 unfolding branch_ok
 true_branch (Main size) h = true_size size h
 true_branch (Video rbx mb eb) h =
-    and_both (rate_ok rbx && size_ok mb) (size_ok eb)
-    (and_both (rate_ok rbx) (size_ok mb) (true_rate rbx h.0) (true_size mb h.1.0))
+    and_from (rate_ok rbx && size_ok mb) (size_ok eb)
+    (and_from (rate_ok rbx) (size_ok mb) (true_rate rbx h.0) (true_size mb h.1.0))
     (true_size eb h.1.1)
 
 module _ (s : TStdStream) where
@@ -63,18 +64,18 @@ module _ (s : TStdStream) where
   stream_true : stream_ok s ≡ true → StreamWithin s
   unfolding stream_ok rx_test
   stream_true e =
-      let both = and_left (pid_ok s.pid && rx_test) (branch_ok s.model.branch) e in
+      let both = (and_parts (pid_ok s.pid && rx_test) (branch_ok s.model.branch) e).0 in
       record {
-        pid = leb-true s.pid max_pid (and_left (pid_ok s.pid) rx_test both);
-        rx = rate_true s.model.rx_bps (and_right (pid_ok s.pid) rx_test both);
-        branch = branch_true s.model.branch (and_right (pid_ok s.pid && rx_test) (branch_ok s.model.branch) e);
+        pid = leb-true s.pid max_pid (and_parts (pid_ok s.pid) rx_test both).0;
+        rx = rate_true s.model.rx_bps (and_parts (pid_ok s.pid) rx_test both).1;
+        branch = branch_true s.model.branch (and_parts (pid_ok s.pid && rx_test) (branch_ok s.model.branch) e).1;
       }
 
   true_stream : StreamWithin s → stream_ok s ≡ true
   unfolding stream_ok rx_test
   true_stream h =
-      and_both (pid_ok s.pid && rx_test) (branch_ok s.model.branch)
-      (and_both (pid_ok s.pid) rx_test (le-leb s.pid max_pid h.pid) (true_rate s.model.rx_bps h.rx))
+      and_from (pid_ok s.pid && rx_test) (branch_ok s.model.branch)
+      (and_from (pid_ok s.pid) rx_test (le-leb s.pid max_pid h.pid) (true_rate s.model.rx_bps h.rx))
       (true_branch s.model.branch h.branch)
 
 module _ (limits : Limits) (c : TStdConfig) where
@@ -100,39 +101,39 @@ module _ (limits : Limits) (c : TStdConfig) where
   pub limits_within : within_limits limits c ≡ true → Within limits c
   unfolding within_limits
   limits_within e =
-      let e6 = and_left t6 (list_all pid_ok (system_pids c)) e in
-      let e5 = and_left t5 (list_all stream_ok (streams_of c)) e6 in
-      let e4 = and_left t4 (between min_clock_depth max_clock_depth c.clock_depth) e5 in
-      let e3 = and_left t3 (between min_queue_depth limits.deepest_queue c.queue_depth) e4 in
-      let e2 = and_left t2 (leb c.system_count max_system_pids) e3 in
+      let e6 = (and_parts t6 (list_all pid_ok (system_pids c)) e).0 in
+      let e5 = (and_parts t5 (list_all stream_ok (streams_of c)) e6).0 in
+      let e4 = (and_parts t4 (between min_clock_depth max_clock_depth c.clock_depth) e5).0 in
+      let e3 = (and_parts t3 (between min_queue_depth limits.deepest_queue c.queue_depth) e4).0 in
+      let e2 = (and_parts t2 (leb c.system_count max_system_pids) e3).0 in
       record {
-        pcr_pid = leb-true c.pcr_pid max_pid (and_left t1 (leb c.stream_count max_streams) e2);
-        stream_count = leb-true c.stream_count max_streams (and_right t1 (leb c.stream_count max_streams) e2);
-        system_count = leb-true c.system_count max_system_pids (and_right t2 (leb c.system_count max_system_pids) e3);
+        pcr_pid = leb-true c.pcr_pid max_pid (and_parts t1 (leb c.stream_count max_streams) e2).0;
+        stream_count = leb-true c.stream_count max_streams (and_parts t1 (leb c.stream_count max_streams) e2).1;
+        system_count = leb-true c.system_count max_system_pids (and_parts t2 (leb c.system_count max_system_pids) e3).1;
         queue_depth =
             between_true min_queue_depth limits.deepest_queue c.queue_depth
-            (and_right t3 (between min_queue_depth limits.deepest_queue c.queue_depth) e4);
+            (and_parts t3 (between min_queue_depth limits.deepest_queue c.queue_depth) e4).1;
         clock_depth =
-            between_true min_clock_depth max_clock_depth c.clock_depth (and_right t4 (between min_clock_depth max_clock_depth c.clock_depth) e5);
+            between_true min_clock_depth max_clock_depth c.clock_depth (and_parts t4 (between min_clock_depth max_clock_depth c.clock_depth) e5).1;
         streams =
             λ i h.
             stream_true (get_or (streams_of c) i unused_stream)
-            (AllPass-from_list_all stream_ok (streams_of c) (and_right t5 (list_all stream_ok (streams_of c)) e6) i unused_stream h);
+            (AllPass-from_list_all stream_ok (streams_of c) (and_parts t5 (list_all stream_ok (streams_of c)) e6).1 i unused_stream h);
         system_pids =
             λ i h.
             leb-true (get_or (system_pids c) i 0) max_pid
-            (AllPass-from_list_all pid_ok (system_pids c) (and_right t6 (list_all pid_ok (system_pids c)) e) i 0 h);
+            (AllPass-from_list_all pid_ok (system_pids c) (and_parts t6 (list_all pid_ok (system_pids c)) e).1 i 0 h);
       }
 
   pub within_limits_lem : Within limits c → within_limits limits c ≡ true
   unfolding within_limits
   within_limits_lem w =
-      and_both t6 (list_all pid_ok (system_pids c))
-      (and_both t5 (list_all stream_ok (streams_of c))
-      (and_both t4 (between min_clock_depth max_clock_depth c.clock_depth)
-      (and_both t3 (between min_queue_depth limits.deepest_queue c.queue_depth)
-      (and_both t2 (leb c.system_count max_system_pids)
-      (and_both t1 (leb c.stream_count max_streams) (le-leb c.pcr_pid max_pid w.pcr_pid) (le-leb c.stream_count max_streams w.stream_count))
+      and_from t6 (list_all pid_ok (system_pids c))
+      (and_from t5 (list_all stream_ok (streams_of c))
+      (and_from t4 (between min_clock_depth max_clock_depth c.clock_depth)
+      (and_from t3 (between min_queue_depth limits.deepest_queue c.queue_depth)
+      (and_from t2 (leb c.system_count max_system_pids)
+      (and_from t1 (leb c.stream_count max_streams) (le-leb c.pcr_pid max_pid w.pcr_pid) (le-leb c.stream_count max_streams w.stream_count))
       (le-leb c.system_count max_system_pids w.system_count))
       (true_between min_queue_depth limits.deepest_queue c.queue_depth w.queue_depth))
       (true_between min_clock_depth max_clock_depth c.clock_depth w.clock_depth))

@@ -1,12 +1,12 @@
 -- The search of `record` for the line of an event's key, a turn at a time, and what each way out of it makes of the report.
-use mathlib.Core.Path.{◌≡◌, refl, sym, ap, ◌∙◌}
+use mathlib.Core.Path.{◌≡◌, refl, ap, ◌∙◌}
 use mathlib.Core.Bool.{Bool, true, false, ◌||◌}
 use mathlib.Core.Logic.{◌⊎◌, inl, inr}
-use mathlib.Core.List.{List, [], ◌∷◌, ◌++◌, map, append_assoc}
+use mathlib.Core.List.{List, [], ◌∷◌, ◌++◌, append_assoc}
 use Prim.Native.Nat.{ℕ, zero, suc, ◌+◌, ◌≤◌, ◌<◌}
 use native.Mathlib.Numerals.{add-one}
 use native.Mathlib.Omega.{arith}
-use lib.ListN.{length, length-map, take, drop, set, get_or, length-append, length-set, take-append-drop, drop_of_length-le}
+use lib.ListN.{length, take, drop, set, get_or, length-append, length-set, take-append-drop, drop_of_length-le}
 use lib.Seq.{get_or-take, drop-cons, take-suc, length-take-le, take-set-lt, drop-set-lt, set_split, take_all}
 use lib.Dec.{ltb}
 use borrow.Author.Tests.{lt-ltb, le-ltb, eq-eqb, ne_eqb}
@@ -159,10 +159,6 @@ module _ (r : TStdReport) (v : TStdViolation) (d : ViolationLine) (start : Searc
 
   pub found_none : Found None → Searched r v r.violation_count
   found_none f = passed r.violation_count (omega arith) (rw line_count at f)
-
--- the length of an array that is a field, from what owning the struct tells
-pub length_of_map : (X Y : Type 0) (f : X → Y) (l : List X) (n : ℕ) → length (map f l) ≡ n → length l ≡ n
-length_of_map X Y f l n p = sym (length-map l f) ∙ p
 
 -- ---- the answer's number
 

@@ -2,7 +2,7 @@
 use Rattle.std.proofs.Common.{◌≡◌, ℕ, zero, suc, ◌+◌, ◌-◌, ◌*◌, ◌^◌, ◌<◌, ◌≤◌, min, Bool, true, false, cond, ltb, leb, ◌≢◌, List, [], length, get_or, take, drop, set, replicate, sym, refl, ap, ◌∙◌, subst, true≢false, mul-le-mul, arith, ltb-false, ltb-true, leb-true}
 use lib.ListN.{length-map, get_or-map}
 use lib.Ieee.{Float}
-use Rattle.profile.proofs.Ranges.{and_left}
+use Rattle.std.proofs.lemmas.Bool.{and_parts}
 use Rattle.error.specs.declared.Refusal.{Refusal}
 use Rattle.packet.specs.Packet.{parse_of}
 use Rattle.std.specs.Prelude.{Option, None}
@@ -109,7 +109,7 @@ module _ (g : Pass) (ready : Ready g) where
   unfolding holds
   in_work i h =
       let a = next_multiple (8 * depth_of g) i (stream_count g) h in
-      let b : clock_from g ≤ length g.work = leb-true _ _ (and_left _ _ (and_left _ _ ready.room)) in
+      let b : clock_from g ≤ length g.work = leb-true _ _ (and_parts _ _ (and_parts _ _ ready.room).0).0 in
       omega arith
 
   first_chain : (i : ℕ) → i < stream_count g → chain_at g.config (started g.config) i ≡ new_chain (stream_at g.config i)

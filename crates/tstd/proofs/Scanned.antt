@@ -1,6 +1,6 @@
 -- A stream's scanner in a step of pass 2: it is fed, or it stays as it is. Assumes nothing.
 use Rattle.std.proofs.Common.{◌≡◌, ℕ, ◌+◌, ◌-◌, ◌<◌, ◌≤◌, Bool, true, false, ◌&&◌, ◌||◌, ltb, List, length, get_or, set, sym, refl, ap, ◌∙◌, true≢false, arith, ltb-false, ltb-true}
-use Rattle.profile.proofs.Ranges.{and_left}
+use Rattle.std.proofs.lemmas.Bool.{and_parts}
 use Rattle.packet.specs.Packet.{payload_of}
 use Rattle.scanner.specs.declared.PesScanner.{PesScanner}
 use Rattle.scanner.specs.declared.Fed.{Fed}
@@ -67,7 +67,7 @@ module _ (tb : FluidFifo) (s s' : PesScanner) (w : List ℕ) (m : Moment) (a : P
       → arrived_with s' buffered ≡ arrived
   unfolding scans_in
   feeds e t x f p q =
-      let h : m.payload_start < 188 = ltb-true _ _ (and_left _ _ (rw e at t)) in
+      let h : m.payload_start < 188 = ltb-true _ _ (and_parts _ _ (rw e at t)).0 in
       rw (p, q, f) (sym (scanned_arrives tb s w m.payload_start a.t0 a.t1 a.cursor.interval m.payload_unit_start h))
 
   -- a scanner that is not fed: the packet has no payload, or one that starts no unit and has no header bytes

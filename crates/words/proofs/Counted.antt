@@ -18,7 +18,7 @@ use Rattle.profile.specs.declared.limits.Limits.{Limits}
 use Rattle.profile.specs.declared.work.WorkSize.{WorkSize}
 use Rattle.profile.specs.Range.{max_streams, max_system_pids}
 use Rattle.profile.specs.Work.{check_of}
-use Rattle.profile.proofs.Ranges.{and_left, and_right}
+use Rattle.std.proofs.lemmas.Bool.{and_parts}
 use Rattle.profile.proofs.Within.{limits_within}
 use Rattle.profile.proofs.Sizes.{check_outside}
 use Rattle.words.specs.Config.{profile_len, slot_word, system_word, pid_fits, slot_fits, slots_fit, system_fits, profile_fits, branch_of, stream_at, slot_streams, slot_pids, config_at, config_of, Fits}
@@ -116,8 +116,8 @@ module _ (ws vs : List ℕ) (a : Alike ws vs) where
 
   counts : tests ≡ true → (get_or ws 1 0 ≤ max_streams) × (get_or ws 2 0 ≤ max_system_pids)
   counts e =
-      let two = and_left (eqb (length ws) profile_len && leb (get_or ws 1 0) max_streams) (leb (get_or ws 2 0) max_system_pids) e in
-      (leb-true (get_or ws 1 0) max_streams (and_right (eqb (length ws) profile_len) (leb (get_or ws 1 0) max_streams) two), leb-true (get_or ws 2 0) max_system_pids (and_right (eqb (length ws) profile_len && leb (get_or ws 1 0) max_streams) (leb (get_or ws 2 0) max_system_pids) e))
+      let two = (and_parts (eqb (length ws) profile_len && leb (get_or ws 1 0) max_streams) (leb (get_or ws 2 0) max_system_pids) e).0 in
+      (leb-true (get_or ws 1 0) max_streams (and_parts (eqb (length ws) profile_len) (leb (get_or ws 1 0) max_streams) two).1, leb-true (get_or ws 2 0) max_system_pids (and_parts (eqb (length ws) profile_len && leb (get_or ws 1 0) max_streams) (leb (get_or ws 2 0) max_system_pids) e).1)
 
   fits_alike : profile_fits ws ≡ profile_fits vs
   unfolding profile_fits
@@ -125,8 +125,8 @@ module _ (ws vs : List ℕ) (a : Alike ws vs) where
       let n = get_or ws 1 0 in
       let m = get_or ws 2 0 in
       let front = tests && pid_fits (get_or ws 0 0) in
-      let slots = and_alike front (slots_fit ws n) (slots_fit vs n) (λ e. slots_fit_alike (counts (and_left tests (pid_fits (get_or ws 0 0)) e)).0) in
-      let pids = and_alike (front && slots_fit vs n) (system_fits ws m) (system_fits vs m) (λ e. system_fits_alike (counts (and_left tests (pid_fits (get_or ws 0 0)) (and_left front (slots_fit vs n) e))).1) in
+      let slots = and_alike front (slots_fit ws n) (slots_fit vs n) (λ e. slots_fit_alike (counts (and_parts tests (pid_fits (get_or ws 0 0)) e).0).0) in
+      let pids = and_alike (front && slots_fit vs n) (system_fits ws m) (system_fits vs m) (λ e. system_fits_alike (counts (and_parts tests (pid_fits (get_or ws 0 0)) (and_parts front (slots_fit vs n) e).0).0).1) in
       ap (λ (b : Bool). b && system_fits ws m) slots ∙ pids ∙ rw (a.size, pcr, streams, system)
 
   -- slots past the counts, and the two spare words of a main stream, are not looked at

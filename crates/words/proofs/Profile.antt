@@ -8,7 +8,7 @@ use native.Mathlib.Omega.{arith}
 use lib.ListN.{length, get_or}
 use lib.Dec.{eqb, leb}
 use borrow.Author.Tests.{leb-true, eq-eqb, ne_eqb, le-leb}
-use Rattle.profile.proofs.Ranges.{and_left, and_right}
+use Rattle.std.proofs.lemmas.Bool.{and_parts}
 use Rattle.words.specs.Config.{slot_word, pid_fits, slot_fits, slots_fit, system_fits, profile_fits, branch_of, stream_at, Fits}
 
 module _ (ws : List ℕ) (i : ℕ) where
@@ -21,7 +21,7 @@ module _ (ws : List ℕ) (i : ℕ) where
 
   pub slot_pid : slot_fits ws i ≡ true → get_or ws (5 + 6 * i) 0 < 65536
   slot_pid e =
-      let p = leb-true (get_or ws (5 + 6 * i) 0) 65535 (and_left (leb (get_or ws (5 + 6 * i) 0) 65535) (leb (slot_word ws i 2) 1) (slot_fits_lem ∙ e)) in
+      let p = leb-true (get_or ws (5 + 6 * i) 0) 65535 (and_parts (leb (get_or ws (5 + 6 * i) 0) 65535) (leb (slot_word ws i 2) 1) (slot_fits_lem ∙ e)).0 in
       omega arith
 
   pub stream_is : record { pid = get_or ws (5 + 6 * i) 0; model = record { rx_bps = slot_word ws i 1; branch = branch_of (slot_word ws i 2) (slot_word ws i 3) (slot_word ws i 4) (slot_word ws i 5) } } ≡ stream_at ws i
@@ -43,16 +43,16 @@ module _ (ws : List ℕ) where
       let d = leb (get_or ws 2 0) 16 in
       let f = leb (get_or ws 0 0) 65535 in
       let g = slots_fit ws (get_or ws 1 0) in
-      let five = and_left (a && b && d && f && g) (system_fits ws (get_or ws 2 0)) e in
-      let four = and_left (a && b && d && f) g five in
-      let three = and_left (a && b && d) f four in
-      let two = and_left (a && b) d three in
+      let five = (and_parts (a && b && d && f && g) (system_fits ws (get_or ws 2 0)) e).0 in
+      let four = (and_parts (a && b && d && f) g five).0 in
+      let three = (and_parts (a && b && d) f four).0 in
+      let two = (and_parts (a && b) d three).0 in
       record {
-        streams = leb-true (get_or ws 1 0) 8 (and_right a b two);
-        system = leb-true (get_or ws 2 0) 16 (and_right (a && b) d three);
-        pcr = let p = leb-true (get_or ws 0 0) 65535 (and_right (a && b && d) f four) in omega arith;
-        slots = and_right (a && b && d && f) g five;
-        pids = and_right (a && b && d && f && g) (system_fits ws (get_or ws 2 0)) e;
+        streams = leb-true (get_or ws 1 0) 8 (and_parts a b two).1;
+        system = leb-true (get_or ws 2 0) 16 (and_parts (a && b) d three).1;
+        pcr = let p = leb-true (get_or ws 0 0) 65535 (and_parts (a && b && d) f four).1 in omega arith;
+        slots = (and_parts (a && b && d && f) g five).1;
+        pids = (and_parts (a && b && d && f && g) (system_fits ws (get_or ws 2 0)) e).1;
       }
 
   pub other_length : (length ws ≡ 69 → ⊥) → false ≡ profile_fits ws

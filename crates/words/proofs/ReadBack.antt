@@ -17,7 +17,7 @@ use Rattle.profile.specs.declared.model.TStdBranch.TheVariants.{Main, Video}
 use Rattle.profile.specs.declared.config.TStdStream.{TStdStream}
 use Rattle.profile.specs.declared.config.TStdConfig.{TStdConfig}
 use Rattle.profile.specs.Config.{unused_stream}
-use Rattle.profile.proofs.Ranges.{and_both}
+use Rattle.std.proofs.lemmas.Bool.{and_from}
 use Rattle.words.specs.Config.{profile_len, slot_word, system_word, pid_fits, slot_fits, slots_fit, system_fits, profile_fits, branch_of, stream_at, slot_streams, slot_pids, config_at, config_of}
 use Rattle.words.specs.Profile.{branch_words, stream_words, profile_words, Plain}
 use Rattle.words.proofs.UpTo.{map_alike, passes_all}
@@ -98,7 +98,7 @@ module _ (c : TStdConfig) (p : Plain c) where
     unfolding slot_fits stream_words
     slot_fits_lem l =
         rw (slot_at i 0 h (omega arith), slot_at i 2 h (omega arith))
-        (and_both (leb s.pid 65535) (leb (get_or (branch_words s.model.branch) 0 0) 1) (le-leb s.pid 65535 (omega arith)) (le-leb (get_or (branch_words s.model.branch) 0 0) 1 (kind_most s.model.branch)))
+        (and_from (leb s.pid 65535) (leb (get_or (branch_words s.model.branch) 0 0) 1) (le-leb s.pid 65535 (omega arith)) (le-leb (get_or (branch_words s.model.branch) 0 0) 1 (kind_most s.model.branch)))
 
   slots_fit_lem : slots_fit ws c.stream_count ≡ true
   unfolding slots_fit
@@ -114,8 +114,8 @@ module _ (c : TStdConfig) (p : Plain c) where
   unfolding profile_words
   profile_fits_lem =
       sym (by_slots ws size p.streams p.system)
-      ∙ and_both (pid_fits c.pcr_pid && slots_fit ws c.stream_count) (system_fits ws c.system_count)
-      (and_both (pid_fits c.pcr_pid) (slots_fit ws c.stream_count) (le-leb c.pcr_pid 65535 (omega (arith, p.pcr))) slots_fit_lem)
+      ∙ and_from (pid_fits c.pcr_pid && slots_fit ws c.stream_count) (system_fits ws c.system_count)
+      (and_from (pid_fits c.pcr_pid) (slots_fit ws c.stream_count) (le-leb c.pcr_pid 65535 (omega (arith, p.pcr))) slots_fit_lem)
       system_fits_lem
 
   config_back : config_at ws ≡ c

@@ -10,7 +10,7 @@ use lib.Seq.{set_at}
 use Rattle.std.specs.List.{list_all, range_with_len}
 use Rattle.std.proofs.lemmas.List.Folds.{list_all_at}
 use Rattle.std.proofs.lemmas.List.FromFn.{length-range_with_len, get_or-range_with_len, length-map-range_with_len, get_or-map-range_with_len, map-range_with_len_more, fill_by_all}
-use Rattle.profile.proofs.Ranges.{and_both}
+use Rattle.std.proofs.lemmas.Bool.{and_from}
 
 module _ (test : ℕ → Bool) where
   by_test : (n i : ℕ) → i < n → list_all test (range_with_len 0 n) ≡ true → (b : Bool) → test i ≡ b → test i ≡ true
@@ -28,7 +28,7 @@ module _ (test : ℕ → Bool) where
   passes_from : (a n : ℕ) → ((i : ℕ) → i < a + n → test i ≡ true) → list_all test (range_with_len a n) ≡ true
   passes_from a zero h = refl
   passes_from a (suc n) h =
-      and_both (test a) (list_all test (range_with_len (a + 1) n)) (h a (omega arith)) (passes_from (a + 1) n (λ i l. h i (omega arith)))
+      and_from (test a) (list_all test (range_with_len (a + 1) n)) (h a (omega arith)) (passes_from (a + 1) n (λ i l. h i (omega arith)))
 
   pub passes_all : (n : ℕ) → ((i : ℕ) → i < n → test i ≡ true) → list_all test (range_with_len 0 n) ≡ true
   passes_all n h = passes_from 0 n (λ i l. h i (omega arith))

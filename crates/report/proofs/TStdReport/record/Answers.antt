@@ -3,9 +3,10 @@ use Rattle.report.specs.Report.{unused_line}
 use borrow.Author.Rules.{rules}
 use borrow.Author.Tests.{tests}
 use native.Mathlib.Omega.{arith}
+use lib.ListN.{length-map}
 use mathlib.Core.Path.{refl, sym}
 use Rattle.std.proofs.lemmas.Iterator.{YieldsList-from_slice, YieldsList-from_take, IsFirst-from_position}
-use Rattle.report.proofs.Search.{OfKey, OfOther, Found, Searched, told, refused_first, starts, length_of_map, found_at, found_none, merged, full_table, added}
+use Rattle.report.proofs.Search.{OfKey, OfOther, Found, Searched, told, refused_first, starts, found_at, found_none, merged, full_table, added}
 use Rattle.report.proofs.TStdReport.record.Goals as goal
 use Rattle.report.proofs.TStdReport.record.Goals.{After-position-found}
 
@@ -13,7 +14,7 @@ pub returns-then-self : goal.returns-then-self
 returns-then-self c = told c.args.self c.args.v (sym (refused_first c.args.self c.args.v c.then-self.either))
 
 start : (c : After-position-found) → Searched c.args.self c.args.v 0
-start c = starts c.args.self c.args.v (search (length_of_map, rules)) (search rules) (omega arith) c.if-self.false
+start c = starts c.args.self c.args.v (grind (arith, length-map)) (search rules) (omega arith) c.if-self.false
 
 -- what the search found
 found : (c : After-position-found) → Found c.args.self c.args.v unused_line (start c) c.position-found.result

@@ -1,21 +1,21 @@
 -- `figures` meets its contract. The invariant: the rows of the first i streams are held. Assumes nothing.
 use Rattle.std.proofs.Common.{◌≡◌, ◌<◌, length, get_or, arith, rules}
 use Rattle.profile.specs.Config.{unused_stream}
-use Rattle.profile.proofs.Copies.{length_of_map}
+use lib.ListN.{length-map}
 use Rattle.tstd.proofs.Rows.{row_read, filled_none, filled_next, filled_all, rows_count, figures_streams, figures_system}
 use Rattle.tstd.proofs.figures.figures.Goals as goal
 
 pub loop-i-init : goal.loop-i-init
-loop-i-init c = filled_none _ _ _ _ _ c.requires _ (search (length_of_map, rules)) c.new-rows.ensures
+loop-i-init c = filled_none _ _ _ _ _ c.requires _ (grind (arith, length-map)) c.new-rows.ensures
 
 pub loop-i-preserved : goal.loop-i-preserved
 loop-i-preserved c =
     let a = c.args in
     let n = c.requires in
     let i = c.loop-i.i in
-    let lt : length a.tbs ≡ 8 = search (length_of_map, rules) in
-    let lb : length a.mains ≡ 8 = search (length_of_map, rules) in
-    let lv : length a.videos ≡ 8 = search (length_of_map, rules) in
+    let lt : length a.tbs ≡ 8 = grind (arith, length-map) in
+    let lb : length a.mains ≡ 8 = grind (arith, length-map) in
+    let lv : length a.videos ≡ 8 = grind (arith, length-map) in
     let t : i < length a.tbs = omega arith in
     let b : i < length a.mains = omega arith in
     let v : i < length a.videos = omega arith in

@@ -1,8 +1,7 @@
 -- `write_report` meets its contract. The invariant: the first lines are written (`Written`). Assumes nothing.
 use native.Mathlib.Omega.{arith}
 use mathlib.Core.Path.{◌∙◌}
-use borrow.Author.Rules.{rules}
-use Rattle.profile.proofs.Copies.{length_of_map}
+use lib.ListN.{length-map}
 use Rattle.words.specs.Report.{line_words}
 use Rattle.words.proofs.Stores.{written_none}
 use Rattle.words.proofs.Report.{line_size, other_length, that_length, line_next, report_ends}
@@ -16,10 +15,10 @@ loop-i-init g c = written_none (line_words g.S.SecondsWord.told) 5 4 (line_size 
 
 pub loop-i-preserved : goal.loop-i-preserved
 loop-i-preserved g c =
-    line_next g.S.SecondsWord.told c.args.report c.args.words.now c.if-words-ne-REPORT_WORDS.false _ c.word.ensures _ _ c.loop-i.i _ _ _ (omega arith) (search (length_of_map, rules)) (omega arith) (omega arith) (c.copy_from_slice.ensures.after ∙ c.line_words.ensures) c.loop-i.invariant
+    line_next g.S.SecondsWord.told c.args.report c.args.words.now c.if-words-ne-REPORT_WORDS.false _ c.word.ensures _ _ c.loop-i.i _ _ _ (omega arith) (grind (arith, length-map)) (omega arith) (omega arith) (c.copy_from_slice.ensures.after ∙ c.line_words.ensures) c.loop-i.invariant
 
 pub returns : goal.returns
 returns g c =
     let size = c.if-words-ne-REPORT_WORDS.false in
-    report_ends g.S.SecondsWord.told c.args.report c.args.words.now size _ c.word.ensures _ c.loop-i.i (search (length_of_map, rules)) c.loop-i.invariant (omega arith)
+    report_ends g.S.SecondsWord.told c.args.report c.args.words.now size _ c.word.ensures _ c.loop-i.i (grind (arith, length-map)) c.loop-i.invariant (omega arith)
     ∙ that_length _ c.args.report c.args.words.now size

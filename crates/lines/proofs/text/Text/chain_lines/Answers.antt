@@ -1,9 +1,7 @@
 -- `chain_lines` meets its contract. Assumes nothing.
 use mathlib.Core.Path.{◌≡◌, ap}
-use lib.ListN.{length, take}
-use borrow.Author.Rules.{rules}
+use lib.ListN.{length, length-map, take}
 use native.Mathlib.Omega.{arith}
-use Rattle.report.proofs.Search.{length_of_map}
 use Rattle.lines.specs.Text.{each, chain_line, chain_lines}
 use Rattle.lines.proofs.Written.{nothing}
 use Rattle.lines.proofs.Lines.{next_line, all_lines}
@@ -19,5 +17,5 @@ loop-chain-preserved c = next_line chain_line 132 _ _ c.loop-chain.invariant _ (
 pub returns : goal.returns
 unfolding chain_lines
 returns c =
-    let all : length c.args.figures.rows ≡ 9 = search (length_of_map, rules) in
+    let all : length c.args.figures.rows ≡ 9 = grind (arith, length-map) in
     all_lines chain_line 132 _ _ c.loop-chain.invariant 9 c.args.figures.count c.args.figures.rows all (ap (λ n. take n c.args.figures.rows) c.min.ensures) (omega arith)

@@ -1,9 +1,7 @@
 -- `violation_lines` meets its contract. Assumes nothing.
 use mathlib.Core.Path.{◌≡◌, ap}
-use lib.ListN.{length, take}
-use borrow.Author.Rules.{rules}
+use lib.ListN.{length, length-map, take}
 use native.Mathlib.Omega.{arith}
-use Rattle.report.proofs.Search.{length_of_map}
 use Rattle.lines.specs.Text.{each, fields_line, violation_line, violation_lines}
 use Rattle.lines.proofs.Written.{nothing, same_text}
 use Rattle.lines.proofs.Lines.{next_line, all_lines}
@@ -21,5 +19,5 @@ loop-line-preserved c =
 pub returns : goal.returns
 unfolding violation_lines
 returns c =
-    let all : length c.args.report.violations ≡ 64 = search (length_of_map, rules) in
+    let all : length c.args.report.violations ≡ 64 = grind (arith, length-map) in
     all_lines violation_line 115 _ _ c.loop-line.invariant 64 c.args.report.violation_count c.args.report.violations all (ap (λ n. take n c.args.report.violations) c.min.ensures) (omega arith)
