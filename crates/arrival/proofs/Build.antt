@@ -12,7 +12,7 @@ use Rattle.arrival.specs.declared.Closed.{Closed}
 use Rattle.arrival.specs.declared.ClockBuild.{ClockBuild}
 use Rattle.arrival.specs.ArrivalClock.{Built, anchor_at, interval_at, stepped, restarted, step_to, rate_to, close, and_then, build_from, build}
 use Rattle.arrival.specs.Work.{holds, interval_in, intervals_in}
-use Rattle.arrival.specs.Pass.{no_sample, Building, store_times, store_places, counted_with, counted, first_refusal, closed_by, in_range, take_sample, take_samples, answer_of, refusal_at, unless_refused, built_by, built_in}
+use Rattle.arrival.specs.Pass.{no_sample, Building, store_times, store_places, counted_with, counted, closed_by, in_range, take_sample, take_samples, answer_of, unless_refused, built_by, built_in}
 use Rattle.arrival.proofs.Cursors.{Room, holds_room, room_holds}
 
 -- ---- stores side by side
@@ -95,7 +95,7 @@ module _ (depth : ℕ) where
     pub room : holds depth w.times w.places ≡ true
 
   abbrev pub grown : ℕ → Building → Building
-  grown n w = record { build = record { samples = w.build.samples + n; anchor = w.build.anchor; refusal = w.build.refusal; refused_sample = w.build.refused_sample }; times = w.times; places = w.places }
+  grown n w = record { build = record { samples = w.build.samples + n; anchor = w.build.anchor; refusal = w.build.refusal }; times = w.times; places = w.places }
 
   in_range_of : (b : ClockBuild) (s : Sample) → s.ticks < 2 ^ 42 → b.samples < 2 ^ 63 → b.anchor.extended < 2 ^ 63 → in_range b s ≡ true
   unfolding in_range
@@ -133,28 +133,24 @@ prepended_then : (is : List RateInterval) (i : RateInterval) (b : Built) → pre
 prepended_then is i (Ok js) = ap Ok (append_assoc is (i ∷ []) js)
 prepended_then is i (Err r) = refl
 
--- the refusal of sample number n comes back from what is kept of it, its kind and n
-abbrev Kept : ℕ → Refusal → Type 0
-Kept n r = refusal_at (first_refusal r) n ≡ r
+-- the anchor is one wrap and a raw PCR further at most
+abbrev Follows : ℕ → Result Closed Refusal → Type 0
+Follows top (Ok c) = c.anchor.extended ≤ top
+Follows top (Err r) = Unit {0}
 
--- behind sample number n: the anchor is one wrap and a raw PCR further at most, or the refusal is kept
-abbrev Follows : ℕ → ℕ → Result Closed Refusal → Type 0
-Follows n top (Ok c) = c.anchor.extended ≤ top
-Follows n top (Err r) = Kept n r
-
-close_follows : (n : ℕ) (a : Anchor) (s : Sample) (top : ℕ) → s.ticks ≤ top → a.extended + pcr_modulus ≤ top → Follows n top (close n a s)
+close_follows : (n : ℕ) (a : Anchor) (s : Sample) (top : ℕ) → s.ticks ≤ top → a.extended + pcr_modulus ≤ top → Follows top (close n a s)
 unfolding close
 close_follows n a s top h g = by s.marked (eqb n 1) (eqb (step_to a s) 0) (lt (rate_to a s) 1000f || lt 1000000000f (rate_to a s))
   where
     by : (m o z r : Bool)
-        → Follows n top
+        → Follows top
         (cond m (cond o (Err (Refusal.DiscontinuityBeforeRate n)) (Ok (record { interval = interval_at a a.rate; anchor = restarted a s })))
         (cond z (Err (Refusal.RepeatedPcr n))
         (cond r (Err (Refusal.RateOutsideLimits n)) (Ok (record { interval = interval_at a (rate_to a s); anchor = stepped a s })))))
-    by true true z r = refl
+    by true true z r = tt
     by true false z r = h
-    by false o true r = refl
-    by false o false true = refl
+    by false o true r = tt
+    by false o false true = tt
     by false o false false = omega arith
 
 module _ (depth : ℕ) where
@@ -162,13 +158,13 @@ module _ (depth : ℕ) where
   abbrev outcome : ℕ → Built → Built
   outcome n b = cond (ltb depth n) (Err (Refusal.ClockFull depth)) (cond (ltb n 2) (Err Refusal.TooFewPcrs) b)
 
-  built_is : (w : Building) → built_in depth w ≡ outcome w.build.samples (built_by (unless_refused w.build.refusal w.build.refused_sample (w.build.samples - 1)) w)
+  built_is : (w : Building) → built_in depth w ≡ outcome w.build.samples (built_by (unless_refused w.build.refusal (w.build.samples - 1)) w)
   unfolding answer_of
   built_is w = by (ltb depth w.build.samples) (ltb w.build.samples 2)
     where
       by : (t u : Bool)
-          → built_by (cond t (Err (Refusal.ClockFull depth)) (cond u (Err Refusal.TooFewPcrs) (unless_refused w.build.refusal w.build.refused_sample (w.build.samples - 1)))) w
-          ≡ cond t (Err (Refusal.ClockFull depth)) (cond u (Err Refusal.TooFewPcrs) (built_by (unless_refused w.build.refusal w.build.refused_sample (w.build.samples - 1)) w))
+          → built_by (cond t (Err (Refusal.ClockFull depth)) (cond u (Err Refusal.TooFewPcrs) (unless_refused w.build.refusal (w.build.samples - 1)))) w
+          ≡ cond t (Err (Refusal.ClockFull depth)) (cond u (Err Refusal.TooFewPcrs) (built_by (unless_refused w.build.refusal (w.build.samples - 1)) w))
       by true u = refl
       by false true = refl
       by false false = refl
@@ -209,32 +205,31 @@ module _ (depth : ℕ) where
       taking h =
           rw (in_range_of depth w.build s l (omega (arith, st.count)) (omega (arith, st.low, st.few)), st.room, ne_eqb w.build.samples 0 (λ e. omega (arith, st.count)), st.accepted, st.count, h)
 
-      follows : Follows (k + 1) ((k + 1 + 1) * 2 ^ 42) (close (k + 1) w.build.anchor s)
+      follows : Follows ((k + 1 + 1) * 2 ^ 42) (close (k + 1) w.build.anchor s)
       follows = close_follows (k + 1) w.build.anchor s ((k + 1 + 1) * 2 ^ 42) (omega arith) (omega (arith, st.low))
 
       refusing : leb depth (k + 1) ≡ false → {r : Refusal} → close (k + 1) w.build.anchor s ≡ Err r → Builds-to k is w (s ∷ ss)
       unfolding Builds-to take_samples closed_by build_from
       refusing h {r} e =
-          let v : Building = record { build = counted_with w.build w.build.anchor (Some (first_refusal r)) (k + 1); times = w.times; places = w.places } in
-          let kept : Kept (k + 1) r = rw e at follows in
+          let v : Building = record { build = counted_with w.build w.build.anchor (Some r); times = w.times; places = w.places } in
           let t : take_sample depth w s ≡ v = taking h ∙ rw (e, st.count) in
           let n : k + 1 + 1 + length ss ≡ k + 1 + suc (length ss) = omega arith in
           ap (λ (x : Building). built_in depth (take_samples depth x ss)) t
           ∙ ap (built_in depth) (count_all depth ss v (record { some = omega (arith, st.count); shut = refl; low = omega (arith, st.low, st.few); room = st.room }) ls (omega (arith, st.count)))
           ∙ built_is (grown depth (length ss) v)
-          ∙ rw (st.count, n, e, kept)
+          ∙ rw (st.count, n, e)
 
       closing : leb depth (k + 1) ≡ false → {i : RateInterval} {a : Anchor} → close (k + 1) w.build.anchor s ≡ Ok (record { interval = i; anchor = a })
           → ((v : Building) → Standing (k + 1) (is ++ (i ∷ [])) v → Builds-to (k + 1) (is ++ (i ∷ [])) v ss) → Builds-to k is w (s ∷ ss)
       unfolding Builds-to take_samples closed_by build_from
       closing h {i} {a} e again =
-          let v : Building = record { build = counted_with w.build a w.build.refusal w.build.refused_sample; times = store_times w.times k i; places = store_places w.places k i } in
+          let v : Building = record { build = counted_with w.build a w.build.refusal; times = store_times w.times k i; places = store_places w.places k i } in
           let m : w.build.samples - 1 ≡ k = omega (arith, st.count) in
           let t : take_sample depth w s ≡ v = taking h ∙ rw (e, m) in
           let n : k + 1 + 1 + length ss ≡ k + 1 + suc (length ss) = omega arith in
           let d = leb-false depth (k + 1) h in
           let r = holds_room depth w.times w.places st.room in
-          let far : Follows (k + 1) ((k + 1 + 1) * 2 ^ 42) (Ok (record { interval = i; anchor = a })) = rw e at follows in
+          let far : Follows ((k + 1 + 1) * 2 ^ 42) (Ok (record { interval = i; anchor = a })) = rw e at follows in
           let stand : intervals_in (store_times w.times k i) (store_places w.places k i) 0 (k + 1) ≡ is ++ (i ∷ []) =
           rw add-one (store_adds w.times w.places k i (omega (arith, r.of_times)) (omega (arith, r.of_places)) k 0 (omega arith) ∙ ap (λ (js : List RateInterval). js ++ (i ∷ [])) st.stand) in
           ap (λ (x : Building). built_in depth (take_samples depth x ss)) t

@@ -11,7 +11,6 @@ use Rattle.arrival.specs.declared.IntervalsMut.{IntervalsMut}
 use Rattle.arrival.specs.declared.Sample.{Sample}
 use Rattle.arrival.specs.declared.Anchor.{Anchor}
 use Rattle.arrival.specs.declared.Closed.{Closed}
-use Rattle.arrival.specs.declared.ClockFault.{ClockFault}
 use Rattle.arrival.specs.declared.ClockBuild.{ClockBuild}
 use Rattle.arrival.specs.declared.ClockPass.{ClockPass}
 use Rattle.arrival.specs.ArrivalClock.{Built, anchor_at, close}
@@ -20,7 +19,7 @@ use Rattle.arrival.specs.Work.{holds, intervals_in, never}
 
 -- before the first sample, and before the first packet
 abbrev pub no_sample : ClockBuild
-no_sample = record { samples = 0; anchor = record { position = 0; extended = 0; time = 0f; rate = 0f }; refusal = None; refused_sample = 0 }
+no_sample = record { samples = 0; anchor = record { position = 0; extended = 0; time = 0f; rate = 0f }; refusal = None }
 
 abbrev pub no_packet : ClockPass
 no_packet = record { start = 0; pending_discontinuity = false; build = no_sample }
@@ -43,35 +42,22 @@ unfoldable pub store_places : List ℕ → ℕ → RateInterval → List ℕ
 store_places places k i = slice_set (slice_set places (2 * k) i.start_pos) (2 * k + 1) i.pcr_ref_90k
 
 -- one sample more
-abbrev pub counted_with : ClockBuild → Anchor → Option ClockFault → ℕ → ClockBuild
-counted_with b a refusal sample = record { samples = b.samples + 1; anchor = a; refusal = refusal; refused_sample = sample }
+abbrev pub counted_with : ClockBuild → Anchor → Option Refusal → ClockBuild
+counted_with b a refusal = record { samples = b.samples + 1; anchor = a; refusal = refusal }
 
 abbrev pub counted : Building → Anchor → Building
-counted w a = record { build = counted_with w.build a w.build.refusal w.build.refused_sample; times = w.times; places = w.places }
+counted w a = record { build = counted_with w.build a w.build.refusal; times = w.times; places = w.places }
 
--- a refusal without its sample; `close` gives only the first three
-abbrev pub first_refusal : Refusal → ClockFault
-first_refusal (Refusal.DiscontinuityBeforeRate sample) = ClockFault.DiscontinuityBeforeRate
-first_refusal (Refusal.RepeatedPcr sample) = ClockFault.RepeatedPcr
-first_refusal (Refusal.RateOutsideLimits sample) = ClockFault.RateOutsideLimits
-first_refusal Refusal.OutsideLimits = ClockFault.RateOutsideLimits
-first_refusal Refusal.WorkTooShort = ClockFault.RateOutsideLimits
-first_refusal Refusal.RecordingTooLong = ClockFault.RateOutsideLimits
-first_refusal Refusal.NoPacketLayout = ClockFault.RateOutsideLimits
-first_refusal Refusal.TooFewPcrs = ClockFault.RateOutsideLimits
-first_refusal (Refusal.ClockFull depth) = ClockFault.RateOutsideLimits
-first_refusal (Refusal.QueueFull packet pid) = ClockFault.RateOutsideLimits
-
--- by what the sample gave: the interval is stored, or the refusal and the sample's number are kept
+-- by what the sample gave: the interval is stored, or the refusal is kept
 unfoldable pub closed_by : Building → Result Closed Refusal → Building
 closed_by w (Ok c) =
     record {
-      build = counted_with w.build c.anchor w.build.refusal w.build.refused_sample;
+      build = counted_with w.build c.anchor w.build.refusal;
       times = store_times w.times (w.build.samples - 1) c.interval;
       places = store_places w.places (w.build.samples - 1) c.interval;
     }
 closed_by w (Err r) =
-    record { build = counted_with w.build w.build.anchor (Some (first_refusal r)) w.build.samples; times = w.times; places = w.places }
+    record { build = counted_with w.build w.build.anchor (Some r); times = w.times; places = w.places }
 
 -- the numbers stay within 64 bits
 unfoldable pub in_range : ClockBuild → Sample → Bool
@@ -90,22 +76,16 @@ unfoldable pub take_samples : ℕ → Building → List Sample → Building
 take_samples depth w [] = w
 take_samples depth w (s ∷ ss) = take_samples depth (take_sample depth w s) ss
 
--- the refusal of a sample again, from its kind and the sample's number
-abbrev pub refusal_at : ClockFault → ℕ → Refusal
-refusal_at ClockFault.DiscontinuityBeforeRate sample = Refusal.DiscontinuityBeforeRate sample
-refusal_at ClockFault.RepeatedPcr sample = Refusal.RepeatedPcr sample
-refusal_at ClockFault.RateOutsideLimits sample = Refusal.RateOutsideLimits sample
-
 -- the answer at the end: number 8 before 5 before the first of 6, 7 and 9; else how many intervals there are
-abbrev pub unless_refused : Option ClockFault → ℕ → ℕ → Result ℕ Refusal
-unless_refused None sample n = Ok n
-unless_refused (Some fault) sample n = Err (refusal_at fault sample)
+abbrev pub unless_refused : Option Refusal → ℕ → Result ℕ Refusal
+unless_refused None n = Ok n
+unless_refused (Some r) n = Err r
 
 unfoldable pub answer_of : ℕ → ClockBuild → Result ℕ Refusal
 answer_of depth b =
     cond (nat_lt depth b.samples) (Err (Refusal.ClockFull depth))
     (cond (nat_lt b.samples 2) (Err Refusal.TooFewPcrs)
-    (unless_refused b.refusal b.refused_sample (b.samples - 1)))
+    (unless_refused b.refusal (b.samples - 1)))
 
 -- what a building has come to: the intervals that stand in the work, or a refusal
 abbrev pub built_by : Result ℕ Refusal → Building → Built

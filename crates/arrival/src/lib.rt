@@ -8,7 +8,7 @@ ghost use Rattle.arrival.specs.ArrivalClock.{seconds, anchor_at, step_to, interv
 ghost use Rattle.arrival.specs.Times.{no_interval, time_of, decode_time_or_zero};
 ghost use Rattle.arrival.specs.Samples.{ticks_of};
 ghost use Rattle.arrival.specs.Work.{room_for, interval_in, nowhere_at, cursor_at, advance, start_of_arrival, next_arrival};
-ghost use Rattle.arrival.specs.Pass.{no_sample, store_times, store_places, first_refusal, refusal_at, in_range, closed_by, building_in, take_sample, Written, Builds, answer_of, no_packet, other_packet, passing_in, pass_field, pass_packet, Passes};
+ghost use Rattle.arrival.specs.Pass.{no_sample, store_times, store_places, in_range, closed_by, building_in, take_sample, Written, Builds, answer_of, no_packet, other_packet, passing_in, pass_field, pass_packet, Passes};
 
 use clock::{PCR_MODULUS_27MHZ, TIMESTAMP_MODULUS_90KHZ};
 use error::Refusal;
@@ -38,22 +38,12 @@ pub struct Closed {
     pub anchor: Anchor,
 }
 
-// A refusal without its sample: with it the padding of `Refusal` would be copied for each sample, which costs 4 ns.
-#[derive(Clone, Copy, Debug, PartialEq, Eq)]
-pub enum ClockFault {
-    DiscontinuityBeforeRate,
-    RepeatedPcr,
-    RateOutsideLimits,
-}
-
 // The clock built so far; its intervals are in lent work.
 #[derive(Clone, Copy)]
 pub struct ClockBuild {
     pub samples: usize,
     pub anchor: Anchor,
-    pub refusal: Option<ClockFault>,
-    // 0 where there is none. Apart from the refusal, as a pair in one Option is copied with its padding: see `ClockFault`.
-    pub refused_sample: u64,
+    pub refusal: Option<Refusal>,
 }
 
 // The pass over the packets so far; the next packet begins at `start`.
@@ -203,34 +193,6 @@ impl Anchor {
     }
 }
 
-impl From<Refusal> for ClockFault {
-    ghost use Rattle.arrival.specs.Pass.{first_refusal};
-
-    ghost from_gives = { λ refusal fault. fault ≡ first_refusal refusal };
-
-    // `Anchor::close` gives no refusal but these three kinds. Ruled out: a repeated PCR kept as a rate outside the limits; a mark kept as a
-    // repeated PCR.
-    fn from(refusal: Refusal) -> ClockFault {
-        match refusal {
-            Refusal::DiscontinuityBeforeRate { .. } => ClockFault::DiscontinuityBeforeRate,
-            Refusal::RepeatedPcr { .. } => ClockFault::RepeatedPcr,
-            _ => ClockFault::RateOutsideLimits,
-        }
-    }
-}
-
-impl ClockFault {
-    fn at(self, sample: u64) -> Refusal
-        ensures { result ≡ refusal_at self sample }
-    {
-        match self {
-            ClockFault::DiscontinuityBeforeRate => Refusal::DiscontinuityBeforeRate { sample },
-            ClockFault::RepeatedPcr => Refusal::RepeatedPcr { sample },
-            ClockFault::RateOutsideLimits => Refusal::RateOutsideLimits { sample },
-        }
-    }
-}
-
 impl IntervalsMut<'_> {
     #[tactic(auto, unfolding(crate::specs::Pass::store_times, crate::specs::Pass::store_places))]
     fn store(&mut self, interval: RateInterval, index: usize)
@@ -261,7 +223,6 @@ impl ClockBuild {
                 rate: 0.0,
             },
             refusal: None,
-            refused_sample: 0,
         }
     }
 
@@ -283,10 +244,7 @@ impl ClockBuild {
                 intervals.store(interval, self.samples - 1);
                 self.anchor = anchor;
             }
-            Err(refusal) => {
-                self.refusal = Some(ClockFault::from(refusal));
-                self.refused_sample = self.samples as u64;
-            }
+            Err(refusal) => self.refusal = Some(refusal),
         }
         self.samples += 1;
     }
@@ -328,7 +286,7 @@ impl ClockBuild {
         }
         match self.refusal {
             None => Ok(self.samples - 1),
-            Some(fault) => Err(fault.at(self.refused_sample)),
+            Some(refusal) => Err(refusal),
         }
     }
 }
