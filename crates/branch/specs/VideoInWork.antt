@@ -28,7 +28,8 @@ use Rattle.branch.specs.Queue.{Lies, fits, SameOutside, entries, floats_at, pop_
 use Rattle.branch.specs.InflowInWork.{inflow_of}
 use Rattle.branch.specs.CumulativeIn.{Inflow, settle, arrived_by, run_refused}
 use Rattle.branch.specs.Units.{open_of, grown}
-use Rattle.branch.specs.UnitsInWork.{unit_at, no_entries, no_units, removed_units}
+unfoldable pub use Rattle.branch.specs.UnitsInWork.{unit_at}
+use Rattle.branch.specs.UnitsInWork.{no_entries, no_units, removed_units}
 use Rattle.branch.specs.VideoStep.{VideoChain, VideoFed, close_au, VideoStep, video_step, end_step}
 use Rattle.branch.specs.VideoBranch.{VideoRates, Transfer, header_bytes, marks_left, transfer, Leak, Turned, since_seen, longest_seen, looked, mb_fullness, leak_until, leak_events, Video, Advanced, remove_unit, remove_events, pushed_leak}
 

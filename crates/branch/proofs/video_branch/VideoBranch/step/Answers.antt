@@ -2,7 +2,7 @@
 use mathlib.Core.Path.{sym, ◌∙◌}
 use mathlib.Core.Bool.{true≢false}
 use native.Mathlib.Omega.{arith}
-use Rattle.branch.proofs.VideoSteps.{ready_is, layout_apart, packet_delivered}
+use Rattle.branch.proofs.VideoSteps.{ready_is, packet_delivered}
 use Rattle.branch.proofs.video_branch.VideoBranch.step.Goals as goal
 
 pub layout-m-requires : goal.layout-m-requires
@@ -18,9 +18,6 @@ advance-requires-clause-k_bound c =
     let l = r.lies.pending in
     let n = r.units in
     (omega (arith, r.slot), omega (arith, l.some, r.room))
-
-pub deliver-requires : goal.deliver-requires
-deliver-requires c = rw c.layout-m.ensures (record { video_lies = rw c.layout-m.ensures at c.advance.ensures.lies; apart = layout_apart _ })
 
 pub returns : goal.returns
 returns c =
