@@ -8,7 +8,7 @@ use error::Refusal;
 use report::{TStdChainStats, TStdReport};
 
 // One record per stream, one more if there are system PIDs: 9 at most, of which the first count are in use.
-// An array with a count, since a replay allocates nothing.
+// An array with a count, since an answer is copied and handed on as a whole, and a vector of fixed capacity is not Copy.
 #[derive(Clone, Copy)]
 pub struct Figures {
     pub rows: [TStdChainStats; 9],

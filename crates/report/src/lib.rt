@@ -11,12 +11,14 @@ pub mod violation;
 use error::Refusal;
 pub use violation::{Figure, Key, TStdViolation, ViolationFields, merge_worse};
 
+// One of the table's 64 records: document 01 wants a record that holds a violation, and so it has a type of its own.
 #[derive(Clone, Copy)]
 pub struct ViolationLine {
     pub violation: TStdViolation,
 }
 
-// The first violation_count lines are in use. An array with a count, since a replay allocates nothing.
+// The first violation_count lines are in use. An array with a count, since a report is copied and handed on as a whole, and a
+// vector of fixed capacity is not Copy.
 #[derive(Clone, Copy)]
 pub struct TStdReport {
     pub violations: [ViolationLine; 64],
@@ -37,6 +39,7 @@ pub struct TStdChainStats {
     pub max_delay_seconds: f64,
 }
 
+// `record` takes a report by value and hands it back with its answer, after a refusal too, where a Result has no report.
 #[derive(Clone, Copy)]
 pub struct Recorded {
     pub answer: Result<(), Refusal>,
@@ -131,7 +134,8 @@ impl TStdReport {
     }
 }
 
-// `record` on a report that the caller lends. Ruled out: the report left as it was; another answer than `record` gives.
+// `record` on a report that the caller lends: document 01 asks for both forms, and this one calls the other.
+// Ruled out: the report left as it was; another answer than `record` gives.
 pub fn record_in(report: &mut TStdReport, v: TStdViolation) -> Result<(), Refusal>
     ensures { (report.new ≡ (recorded report.old v).report) × (result ≡ (recorded report.old v).answer) × (code_told result ≡ record_code report.old v) }
 {

@@ -165,8 +165,8 @@ impl Figure {
     }
 }
 
-// The violation with another figure in bytes, where its kind has one. Apart from the one in seconds, as one function of both
-// would have over 40 lines.
+// The violation with another figure in bytes, where its kind has one. Apart from the one in seconds, since functions stay within
+// forty lines.
 #[tactic(auto, unfolding(crate::specs::Violation::with_figure))]
 fn with_bytes(v: TStdViolation, bytes: u64) -> TStdViolation
     ensures { result ≡ with_figure v (Figure.Bytes bytes) }
