@@ -1,5 +1,5 @@
 -- What a chain finds against the rules of H.222.0, 2.4.2.6, as values in the order of their finding.
-use Rattle.std.specs.Prelude.{ℕ, Bool, true, false, List, [], ◌∷◌, Float}
+use Rattle.std.specs.Prelude.{ℕ, Bool, true, false, cond, eqb, List, [], ◌∷◌, Float}
 use Rattle.ieee.specs.Binary64.{0f}
 use Rattle.events.specs.declared.EventKind.{EventKind}
 use Rattle.events.specs.declared.EventKind.TheVariants.{Overflow, Underflow, Delay, TbOverflow, TbBusy, MbBusy}
@@ -31,6 +31,15 @@ place_of Delay = 2
 place_of TbOverflow = 3
 place_of TbBusy = 4
 place_of MbBusy = 5
+
+-- the kind of a place: that of `place_of` below 6
+unfoldable pub kind_at : ℕ → EventKind
+kind_at place =
+    cond (eqb place 0) Overflow
+    (cond (eqb place 1) Underflow
+    (cond (eqb place 2) Delay
+    (cond (eqb place 3) TbOverflow
+    (cond (eqb place 4) TbBusy MbBusy))))
 
 -- the kinds, as the slots of a chain have them
 unfoldable pub kind_of : Event → ℕ

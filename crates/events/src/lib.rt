@@ -2,7 +2,7 @@
 #![tactic(auto)]
 
 ghost use Rattle.std.specs.Prelude.{◌≡◌, ◌+◌};
-ghost use Rattle.events.specs.Event.{place_of};
+ghost use Rattle.events.specs.Event.{place_of, kind_at};
 ghost use Rattle.events.specs.Slots.{no_events, noted, noted_if};
 
 // The kinds of a chain's events, in the order of their slots.
@@ -22,19 +22,29 @@ impl EventKind {
     pub fn place(self) -> usize
         ensures { result ≡ place_of self }
     {
-        match self {
-            EventKind::Overflow => 0,
-            EventKind::Underflow => 1,
-            EventKind::Delay => 2,
-            EventKind::TbOverflow => 3,
-            EventKind::TbBusy => 4,
-            EventKind::MbBusy => 5,
+        self as usize
+    }
+
+    // The kind whose place it is. Ruled out: two places below 6 with one kind; another kind than MbBusy past 5.
+    #[tactic(auto, unfolding(crate::specs::Event::kind_at))]
+    pub fn at(place: usize) -> EventKind
+        ensures { result ≡ kind_at place }
+    {
+        match place {
+            0 => EventKind::Overflow,
+            1 => EventKind::Underflow,
+            2 => EventKind::Delay,
+            3 => EventKind::TbOverflow,
+            4 => EventKind::TbBusy,
+            _ => EventKind::MbBusy,
         }
     }
 }
 
 // firsts[0] counts the events. Slot k, from 1 to 63, has the number of its first event in firsts[k] (0: none yet), its largest
-// figure in figures[k], and the decode time of its first event in figures[64 + k].
+// figure in figures[k], and the decode time of its first event in figures[64 + k]. Two lists and not one of structs, since the report
+// asks the list of first numbers alone for the order of the slots (`next_slot` and `first_slots` in `summary`): with structs each
+// would have to take the numbers out first.
 #[derive(Clone, Copy)]
 pub struct Slots {
     pub firsts: [u64; 64],
@@ -80,7 +90,8 @@ impl Slots {
         }
     }
 
-    // The same for a kind of the chain whose slots begin at chain_k. Ruled out: the event in the slot of another kind; a chain_k near
+    // The same for a kind of the chain whose slots begin at chain_k. The test is a parameter, as in std's `bool::then`, since up to three
+    // events are noted one behind the other, each with a test of its own. Ruled out: the event in the slot of another kind; a chain_k near
     // its type's end that comes round to a slot.
     pub fn note_kind_if(
         &mut self,

@@ -23,8 +23,8 @@ use Rattle.profile.specs.declared.config.TStdStream.{TStdStream}
 use Rattle.profile.specs.declared.config.TStdConfig.{TStdConfig}
 use Rattle.profile.specs.Config.{unused_stream}
 use Rattle.events.specs.declared.EventKind.TheVariants.{Overflow, Underflow, Delay, TbOverflow as TbOverflowKind, TbBusy, MbBusy}
-use Rattle.events.specs.Event.{Event, overflow, underflow, delay, tb_overflow, tb_busy, mb_busy, kind_of, figure_of, decode_of}
-use Rattle.summary.specs.Kinds.{kind_at, event_in}
+use Rattle.events.specs.Event.{Event, overflow, underflow, delay, tb_overflow, tb_busy, mb_busy, kind_of, figure_of, decode_of, kind_at}
+use Rattle.summary.specs.Kinds.{event_in}
 use Rattle.summary.specs.Violation.{whole_bytes, overflow_in, underflow_in, stream_violation, system_violation, system_pid, violation_of, event_of, slot_of, slot_violation, AboveZero, SecondsAboveZero}
 
 -- ---- what the violations of a slot have in common, whatever figure and decode time it has

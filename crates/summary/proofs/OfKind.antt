@@ -8,7 +8,8 @@ use lib.Ieee.{Float}
 use borrow.Author.Tests.{lt-ltb, le-ltb}
 use Rattle.profile.specs.declared.config.TStdConfig.{TStdConfig}
 use Rattle.profile.specs.Config.{unused_stream}
-use Rattle.summary.specs.Kinds.{kind_at, event_in}
+use Rattle.events.specs.Event.{kind_at}
+use Rattle.summary.specs.Kinds.{event_in}
 use Rattle.summary.specs.Violation.{stream_violation, system_violation, system_pid, violation_of, event_of, slot_violation}
 
 module _ (c : TStdConfig) where

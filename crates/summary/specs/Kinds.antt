@@ -1,16 +1,8 @@
--- The kinds of a chain's events by their places among its slots, and the event of a kind.
-use Rattle.std.specs.Prelude.{ℕ, cond, eqb, Float}
+-- The event of a kind.
+use Rattle.std.specs.Prelude.{Float}
 use Rattle.events.specs.declared.EventKind.{EventKind}
 use Rattle.events.specs.declared.EventKind.TheVariants.{Overflow, Underflow, Delay, TbOverflow, TbBusy, MbBusy}
 use Rattle.events.specs.Event.{Event, overflow, underflow, delay, tb_overflow, tb_busy, mb_busy}
-
-unfoldable pub kind_at : ℕ → EventKind
-kind_at place =
-    cond (eqb place 0) Overflow
-    (cond (eqb place 1) Underflow
-    (cond (eqb place 2) Delay
-    (cond (eqb place 3) TbOverflow
-    (cond (eqb place 4) TbBusy MbBusy))))
 
 abbrev pub event_in : EventKind → Float → Float → Event
 event_in Overflow figure decode = overflow figure

@@ -11,8 +11,8 @@ use Rattle.profile.specs.declared.model.TStdBranch.TheVariants.{Main, Video}
 use Rattle.profile.specs.declared.config.TStdStream.{TStdStream}
 use Rattle.profile.specs.declared.config.TStdConfig.{TStdConfig}
 use Rattle.profile.specs.Config.{unused_stream, system_pids}
-use Rattle.events.specs.Event.{Event, overflow, underflow, delay, tb_overflow, tb_busy, mb_busy, kind_of}
-use Rattle.summary.specs.Kinds.{kind_at, event_in}
+use Rattle.events.specs.Event.{Event, overflow, underflow, delay, tb_overflow, tb_busy, mb_busy, kind_of, kind_at}
+use Rattle.summary.specs.Kinds.{event_in}
 
 -- a figure in bytes, `as u64`
 abbrev pub whole_bytes : Float → ℕ

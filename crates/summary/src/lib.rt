@@ -2,9 +2,9 @@
 // their first events. Stream i has the six slots from 1 + 6 * i on, the system chain those from 49 on.
 #![tactic(auto)]
 
-ghost use Rattle.std.specs.Prelude.{◌≡◌};
+ghost use Rattle.std.specs.Prelude.{◌≡◌, Float};
 ghost use Rattle.summary.specs.Violation.{overflow_in, underflow_in, stream_violation, system_violation, system_pid, slot_violation};
-ghost use Rattle.summary.specs.Kinds.{kind_at, event_in};
+ghost use Rattle.summary.specs.Kinds.{event_in};
 ghost use Rattle.summary.specs.Next.{NextSlot};
 ghost use Rattle.summary.specs.Summary.{summary};
 
@@ -48,21 +48,6 @@ fn underflow_in(branch: TStdBranch, pid: u16, decode_time: f64, missing_bytes: u
     }
 }
 
-// The kind of a slot by its place in its chain.
-#[tactic(auto, unfolding(crate::specs::Kinds::kind_at))]
-fn kind_at(place: usize) -> EventKind
-    ensures { result ≡ kind_at place }
-{
-    match place {
-        0 => EventKind::Overflow,
-        1 => EventKind::Underflow,
-        2 => EventKind::Delay,
-        3 => EventKind::TbOverflow,
-        4 => EventKind::TbBusy,
-        _ => EventKind::MbBusy,
-    }
-}
-
 #[tactic(auto, unfolding(crate::specs::Violation::stream_violation))]
 fn stream_violation(
     stream: TStdStream,
@@ -102,8 +87,8 @@ fn stream_violation(
 }
 
 #[tactic(auto, unfolding(crate::specs::Violation::system_violation))]
-fn system_violation(pid: u16, kind: EventKind, figure: f64, decode_time: f64) -> TStdViolation
-    ensures { result ≡ system_violation pid (event_in kind figure decode_time) }
+fn system_violation(pid: u16, kind: EventKind, figure: f64) -> TStdViolation
+    ensures { (decode : Float) → result ≡ system_violation pid (event_in kind figure decode) }
 {
     match kind {
         EventKind::TbOverflow => TStdViolation::TbOverflow {
@@ -138,17 +123,17 @@ pub fn violation(config: TStdConfig, k: usize, figure: f64, decode_time: f64) ->
 {
     let before = k.saturating_sub(1);
     let chain = before / 6;
-    let kind = kind_at(before % 6);
+    let kind = EventKind::at(before % 6);
     if chain < 8 {
         stream_violation(config.streams[chain], kind, figure, decode_time)
     } else {
-        system_violation(system_pid(config), kind, figure, decode_time)
+        system_violation(system_pid(config), kind, figure)
     }
 }
 
 // The slot whose first event comes next behind event `after`. Of slots with one number, which no events leave, the lowest.
-fn next_slot(firsts: [u64; 64], after: u64) -> Option<usize>
-    ensures { NextSlot firsts after result }
+fn next_slot(firsts: &[u64; 64], after: u64) -> Option<usize>
+    ensures { NextSlot firsts.now after result }
 {
     let mut best = None;
     for k in 1..64 {
@@ -170,7 +155,7 @@ pub fn report_of(config: TStdConfig, slots: Slots) -> TStdReport
 {
     let mut report = TStdReport::new();
     let mut after = 0;
-    while let Some(k) = next_slot(slots.firsts, after) {
+    while let Some(k) = next_slot(&slots.firsts, after) {
         let recorded = report.record(violation(config, k, slots.figures[k], slots.figures[64 + k]));
         report = recorded.report;
         after = slots.firsts[k];

@@ -13,7 +13,7 @@ loop-k-init c = scan_starts _ _
 pub loop-k-preserved : goal.loop-k-preserved
 loop-k-preserved c =
     let l = c.loop-k in
-    let test : c.match-best.sooner ≡ sooner c.args.firsts l.best (get_or c.args.firsts l.k 0) = elim c.match-best.branch [
+    let test : c.match-best.sooner ≡ sooner c.args.firsts.now l.best (get_or c.args.firsts.now l.k 0) = elim c.match-best.branch [
       | in-Some w ↦ rw (w.sooner-is, w.in-Some.is)
       | in-None w ↦ rw (w.sooner-is, w.in-None.is)
     ] in
