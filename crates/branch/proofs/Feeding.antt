@@ -1,7 +1,7 @@
 -- What a packet delivers to a main branch, and its end, in terms of the lists in the two rings.
 use Prim.Native.Nat.{ℕ, ◌+◌}
 use mathlib.Core.Path.{◌≡◌, refl, sym, ap, ◌∙◌}
-use mathlib.Core.Bool.{Bool, true, false}
+use mathlib.Core.Bool.{Bool, true, false, cond}
 use mathlib.Core.List.{List}
 use mathlib.Core.Logic.{inl, inr}
 use native.Mathlib.Omega.{arith}
@@ -19,7 +19,7 @@ use Rattle.branch.specs.declared.AccessUnit.{AccessUnit}
 use Rattle.branch.specs.declared.QueueFull.{QueueFull}
 use Rattle.branch.specs.declared.queue.Place.{Place}
 use Rattle.branch.specs.declared.inflow.CumulativeIn.{CumulativeIn}
-use Rattle.std.specs.Prelude.{⊤, Option, Some, None, Result, Ok, Err, is_err, IsErr}
+use Rattle.std.specs.Prelude.{⊤, Result, Ok, Err, is_err, IsErr}
 use Rattle.branch.specs.declared.units.Units.{Units}
 use Rattle.branch.specs.declared.main_branch.MainModel.{MainModel}
 use Rattle.branch.specs.declared.main_branch.MainBranch.{MainBranch}
@@ -52,9 +52,6 @@ looked w p b k s x total peak l t n h =
 
 pub fed_same : (w : List Float) (p : MainModel) (b : MainBranch) (x : Fed) → BranchLies w p b → x ≡ fed (main_of w p b) → FedTo w p b x (Ok tt) b w
 fed_same w p b x l e = rw e (record { lies = l; outside = outside_refl _ _ w; full = refl; state = refl; units = refl })
-
-fed_refused : (w : List Float) (p : MainModel) (b : MainBranch) (x : Fed) → BranchLies w p b → x ≡ refused (main_of w p b) → FedTo w p b x (Err (record {})) b w
-fed_refused w p b x l e = rw e (record { lies = l; outside = outside_refl _ _ w; full = refl; state = refl; units = refl })
 
 -- ---- the units, and what else is in the branch
 
@@ -154,34 +151,35 @@ some_run_lem : (depth : ℕ) (run : Run) (m : Main) → lt 0f run.bytes ≡ true
 unfolding add_run
 some_run_lem depth run m e = simp e
 
-module _ (w v : List Float) (p : MainModel) (b : MainBranch) (run : Run) (some : lt 0f run.bytes ≡ true) (pl : Place) (at : pl ≡ runs_place p) (l : BranchLies w p b) (r : Option CumulativeIn)
-    (m : RunPushedTo w pl b.inflow run r v) where
-  run_here : RunPushedTo w (runs_place p) b.inflow run r v
-  run_here = rw at at m
+module _ (w v : List Float) (p : MainModel) (b : MainBranch) (run : Run) (some : lt 0f run.bytes ≡ true) (pl : Place) (at : pl ≡ runs_place p) (l : BranchLies w p b) (r : Result ⊤ QueueFull) (i : CumulativeIn)
+    (m : RunPushedTo w pl b.inflow run r i v) where
+  here : RunPushedTo w (runs_place p) b.inflow run r i v
+  here = rw at at m
 
-  inflow_of_lem : (main_of w p b).inflow ≡ inflow_of w (runs_place p) b.inflow
-  unfolding main_of
-  inflow_of_lem = refl
+  added : (c : Bool) → is_err r ≡ c → add_run p.depth run (main_of w p b) ≡ cond c (refused (main_of w p b)) (add_bytes p.depth run (main_of w p b))
+  unfolding add_bytes main_of
+  added true f = some_run_lem p.depth run (main_of w p b) some ∙ rw (sym here.full ∙ f)
+  added false f = some_run_lem p.depth run (main_of w p b) some
 
-  pub add_full : r ≡ None → FedTo w p b (add_run p.depth run (main_of w p b)) (Err (record {})) b v
-  unfolding add_bytes
-  add_full f =
-      let k = run_here.refused f in
-      let c : run_refused p.depth (main_of w p b).inflow run ≡ true = rw inflow_of_lem k.1 in
-      rw k.0 (fed_refused w p b _ l (some_run_lem p.depth run (main_of w p b) some ∙ rw c))
+  pub add_full : (e : QueueFull) (r' : Result ⊤ QueueFull) → r ≡ Err e → IsErr r' →
+      FedTo w p b (add_run p.depth run (main_of w p b)) r' (record { inflow = i; units = b.units; removed = b.removed; required = b.required; peak = b.peak }) v
+  add_full e r' f g =
+      let t : is_err r ≡ true = ap is_err f in
+      let k = here.refused t in
+      rw (added true t, k.0, k.1) (record { lies = l; outside = outside_refl _ _ w; full = g; state = refl; units = refl })
 
-  pub add_pushed : (i : CumulativeIn) (u : Units) → r ≡ Some i → u ≡ grown_units b.units run.bytes →
+  pub add_pushed : (u : Units) → r ≡ Ok tt → u ≡ grown_units b.units run.bytes →
       FedTo w p b (add_run p.depth run (main_of w p b)) (Ok tt) (record { inflow = i; units = u; removed = b.removed; required = b.required; peak = b.peak }) v
   unfolding add_bytes main_of
-  add_pushed i u f g =
-      let h = run_here in
-      let k = h.taken i f in
-      let pending = units_kept v (units_place p) b.units.pending l.pending h.outside (inr (omega arith)) in
-      rw (some_run_lem p.depth run (main_of w p b) some, k.room, g)
+  add_pushed u f g =
+      let t : is_err r ≡ false = ap is_err f in
+      let room : run_refused p.depth (inflow_of w (runs_place p) b.inflow) run ≡ false = sym here.full ∙ t in
+      let pending = units_kept v (units_place p) b.units.pending l.pending here.outside (inr (omega arith)) in
+      rw (some_run_lem p.depth run (main_of w p b) some, room, g)
       (record {
-        lies = record { runs = k.lies; pending = lies_kept h.outside l.pending };
-        outside = outside_wider (omega arith) (omega arith) h.outside;
+        lies = record { runs = here.lies; pending = lies_kept here.outside l.pending };
+        outside = outside_wider (omega arith) (omega arith) here.outside;
         full = refl;
-        state = rw (k.state, pending, open_grown b.units.open_au run.bytes);
+        state = rw (here.taken t, pending, open_grown b.units.open_au run.bytes);
         units = refl;
       })

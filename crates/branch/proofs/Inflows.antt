@@ -1,7 +1,7 @@
 -- The turns of the loops of `CumulativeIn`, in terms of the runs in the ring.
 use Prim.Native.Nat.{ℕ, ◌+◌, ◌≤◌, ◌<◌}
 use mathlib.Core.Path.{◌≡◌, refl, sym, ap, ◌∙◌}
-use mathlib.Core.Bool.{true, false}
+use mathlib.Core.Bool.{Bool, true, false}
 use mathlib.Core.List.{List, [], ◌∷◌}
 use native.Mathlib.Omega.{arith}
 use lib.Ieee.{Float, lt, le}
@@ -10,12 +10,12 @@ use Rattle.branch.specs.declared.Run.{Run}
 use Rattle.branch.specs.declared.queue.Place.{Place}
 use Rattle.branch.specs.declared.queue.Ring.{Ring}
 use Rattle.branch.specs.declared.inflow.CumulativeIn.{CumulativeIn}
-use Rattle.std.specs.Prelude.{Option, Some, None}
-use Rattle.std.proofs.lemmas.Option.{none-some}
+use Rattle.std.specs.Prelude.{⊤, Option, Some, None, Result, Ok, is_err}
+use Rattle.branch.specs.declared.QueueFull.{QueueFull}
 use Rattle.branch.specs.Queue.{Lies, place_of, floats_at, pop_def, PushedTo}
 use Rattle.branch.specs.CumulativeIn.{Inflow, settle, arrived_by, fraction, total_of, bytes_from, time_from, front_time, time_of_cumulative, push_run, run_refused}
-use Rattle.branch.specs.InflowInWork.{run_of, runs_of, inflow_of, SettledTo, RunTaken, RunPushedTo}
-use Rattle.branch.proofs.Rings.{popped, lies_popped, no_entries_lem, count_entries, floats_local, Walking, walk_next, walk_stop, walk_end, push_room, push_refused, push_adds, push_lies, push_outside, outside_refl, some_is}
+use Rattle.branch.specs.InflowInWork.{run_of, runs_of, inflow_of, SettledTo, RunPushedTo}
+use Rattle.branch.proofs.Rings.{popped, lies_popped, no_entries_lem, count_entries, floats_local, Walking, walk_next, walk_stop, walk_end, push_room, push_refused, push_adds, push_lies, push_outside, outside_refl}
 use Rattle.branch.proofs.Settling.{inflow, settle_spent, settle_left, settle_none}
 
 abbrev pub run_in : List Float → Place → Ring → ℕ → Run
@@ -126,37 +126,29 @@ module _ (w : List Float) (p : Place) (c : CumulativeIn) (target : Float) where
 
 -- ---- push_run
 
-pub run_empty : (w : List Float) (p : Place) (c : CumulativeIn) (run : Run) → Lies 3 w p c.runs → lt 0f run.bytes ≡ false → RunPushedTo w p c run (Some c) w
+pub run_empty : (w : List Float) (p : Place) (c : CumulativeIn) (run : Run) → Lies 3 w p c.runs → lt 0f run.bytes ≡ false → RunPushedTo w p c run (Ok tt) c w
 unfolding run_refused push_run
-run_empty w p c run l e =
-    record {
-      outside = outside_refl _ _ w;
-      refused = λ f. absurd (none-some c (sym f));
-      taken = λ o f. let z : c ≡ o = some_is f in rw (← z) (record { lies = l; room = simp e; state = simp e });
-    }
+run_empty w p c run l e = record { lies = l; outside = outside_refl _ _ w; full = simp e; refused = λ f. (refl, refl); taken = λ f. simp e }
 
 abbrev pub floats_of_run : Run → List Float
 floats_of_run r = r.t0 ∷ (r.t1 ∷ (r.bytes ∷ []))
 
-module _ (w v : List Float) (p : Place) (c : CumulativeIn) (run : Run) (lies : Lies 3 w p c.runs) (r : Option Ring) (e : lt 0f run.bytes ≡ true) (m : PushedTo 3 w p c.runs (floats_of_run run) r v) where
-  pub run_refused_lem : r ≡ None → RunPushedTo w p c run None v
-  unfolding run_refused
-  run_refused_lem f =
-      let k = push_refused lies m f in
-      record {
-        outside = push_outside lies m;
-        refused = λ z. (k.0, simp (e, count_entries 3 read_run w p c.runs) k.1);
-        taken = λ o z. absurd (none-some o z);
-      }
+module _ (w v : List Float) (p : Place) (c : CumulativeIn) (run : Run) (lies : Lies 3 w p c.runs) (r : Result ⊤ QueueFull) (q : Ring) (e : lt 0f run.bytes ≡ true) (m : PushedTo 3 w p c.runs (floats_of_run run) r q v) where
+  abbrev taken : CumulativeIn
+  taken = record { runs = q; settled = c.settled }
 
-  pub run_taken : (q : Ring) → r ≡ Some q → RunPushedTo w p c run (Some (record { runs = q; settled = c.settled })) v
-  unfolding run_refused push_run
-  run_taken q f =
-      let i : CumulativeIn = record { runs = q; settled = c.settled } in
-      let t : RunTaken w p c run i v =
+  full_by : (b : Bool) → is_err r ≡ b → is_err r ≡ run_refused p.depth (inflow_of w p c) run
+  unfolding run_refused
+  full_by true f = f ∙ sym (simp (e, count_entries 3 read_run w p c.runs) (push_refused lies m f).1)
+  full_by false f = f ∙ sym (simp (e, count_entries 3 read_run w p c.runs) (push_room lies m f))
+
+  pub run_pushed : RunPushedTo w p c run r taken v
+  unfolding push_run
+  run_pushed =
       record {
-        lies = push_lies lies m q f;
-        room = simp (e, count_entries 3 read_run w p c.runs) (push_room lies m q f);
-        state = simp (e, push_adds lies m q f run_of (floats_local 3 run_of));
-      } in
-      record { outside = push_outside lies m; refused = λ z. absurd (none-some i (sym z)); taken = λ o z. let y : i ≡ o = some_is z in rw (← y) t }
+        lies = push_lies lies m;
+        outside = push_outside lies m;
+        full = full_by (is_err r) refl;
+        refused = λ f. let k = (push_refused lies m f).0 in (ap (λ (z : Ring). record { runs = z; settled = c.settled }) k.0, k.1);
+        taken = λ f. simp (e, push_adds lies m f run_of (floats_local 3 run_of));
+      }

@@ -13,9 +13,10 @@ use lib.Seq.{drop-cons, drop-append_seam, take-append_seam}
 use lib.Dec.{ltb, eqb}
 use lib.Ieee.{Float, nan}
 use borrow.Author.Tests.{lt-ltb, le-leb, leb-true, ltb-true, ltb-false, eqb-true, eqb-false, eq-eqb, ne_eqb}
+use Rattle.branch.specs.declared.QueueFull.{QueueFull}
 use Rattle.branch.specs.declared.queue.Place.{Place}
 use Rattle.branch.specs.declared.queue.Ring.{Ring}
-use Rattle.std.specs.Prelude.{Option, Some, None}
+use Rattle.std.specs.Prelude.{⊤, Some, None, Result, is_err}
 use Rattle.std.proofs.lemmas.List.{get_or-drop, get_or-take, get_or_append_left, get_or-append_right, ext_get_or, length-append, length-drop, length-take, length-take-le}
 use Rattle.std.proofs.lemmas.Option.{none-some}
 use Rattle.branch.specs.Queue.{Lies, fits, SameOutside, slot_of, place_of, entries_from, entries, pop_def, longer, floats_at, pushed_def, PushedTo}
@@ -243,16 +244,18 @@ full_is d q = full_by d q (eqb q.count d) refl
 pub some_is : {A : Type 0} {a b : A} → Some a ≡ Some b → a ≡ b
 some_is e = cc
 
-module _ {n : ℕ} {w v : List Float} {p : Place} {q : Ring} {e : List Float} {r : Option Ring} (l : Lies n w p q) (m : PushedTo n w p q e r v) where
+module _ {n : ℕ} {w v : List Float} {p : Place} {q o : Ring} {e : List Float} {r : Result ⊤ QueueFull} (l : Lies n w p q) (m : PushedTo n w p q e r o v) where
   -- a push that is refused changes nothing
-  pub push_refused : r ≡ None → (v ≡ w) × (eqb q.count p.depth ≡ true)
+  pub push_refused : is_err r ≡ true → ((o ≡ q) × (v ≡ w)) × (eqb q.count p.depth ≡ true)
   push_refused f =
-      (m.refused f, ⊎_elim (λ x. eq-eqb _ _ x.0) (λ x. absurd (none-some (longer q) (sym f ∙ (m.result ∙ x.1)))) (full_is p.depth q))
+      let none : None ≡ pushed_def p.depth q = rw f at m.result in
+      (m.refused f, ⊎_elim (λ x. eq-eqb _ _ x.0) (λ x. absurd (none-some (longer q) (none ∙ x.1))) (full_is p.depth q))
 
-  module _ (o : Ring) (f : r ≡ Some o) where
+  module _ (f : is_err r ≡ false) where
     added : (q.count ≢ p.depth) × (o ≡ longer q)
     added =
-        ⊎_elim (λ x. absurd (none-some o (sym x.1 ∙ (sym m.result ∙ f)))) (λ x. (x.0, some_is (sym f ∙ (m.result ∙ x.1)))) (full_is p.depth q)
+        let some : Some o ≡ pushed_def p.depth q = rw f at m.result in
+        ⊎_elim (λ x. absurd (none-some o (sym (some ∙ x.1)))) (λ x. (x.0, some_is (some ∙ x.1))) (full_is p.depth q)
 
     pub push_room : eqb q.count p.depth ≡ false
     push_room = ne_eqb _ _ added.0
@@ -262,17 +265,28 @@ module _ {n : ℕ} {w v : List Float} {p : Place} {q : Ring} {e : List Float} {r
 
     -- one that is not refused adds its entry at the end, however the entries are read
     pub push_adds : {B : Type 0} (g : List Float → B) → Local n (λ u i. g (floats_at n u i)) → entries n (λ u i. g (floats_at n u i)) v p o ≡ entries n (λ u i. g (floats_at n u i)) w p q ++ (g e ∷ [])
-    push_adds g local = rw added.1 (pushed n (λ u i. g (floats_at n u i)) local w v p q l room m.outside ∙ rw (m.entry o f) refl)
+    push_adds g local = rw added.1 (pushed n (λ u i. g (floats_at n u i)) local w v p q l room m.outside ∙ rw (m.entry f) refl)
 
-    pub push_lies : Lies n v p o
-    push_lies = rw added.1 (lies_kept m.outside (lies_longer l room))
+    lies_added : Lies n v p o
+    lies_added = rw added.1 (lies_kept m.outside (lies_longer l room))
 
     -- the ring's own part of the work alone is written
     taken_outside : SameOutside p.base (p.base + n * p.depth) w v
     taken_outside = let i = place_in n p q q.count l.inside room in outside_wider i.0 i.1 m.outside
 
+  lies_by : (b : Bool) → is_err r ≡ b → Lies n v p o
+  lies_by true f = rw ((m.refused f).0, (m.refused f).1) l
+  lies_by false f = lies_added f
+
+  pub push_lies : Lies n v p o
+  push_lies = lies_by (is_err r) refl
+
+  outside_by : (b : Bool) → is_err r ≡ b → SameOutside p.base (p.base + n * p.depth) w v
+  outside_by true f = rw (m.refused f).1 (outside_refl _ _ w)
+  outside_by false f = taken_outside f
+
   pub push_outside : SameOutside p.base (p.base + n * p.depth) w v
-  push_outside = ⊎_elim (λ x. rw (m.refused (m.result ∙ x.1)) (outside_refl _ _ w)) (λ x. taken_outside (longer q) (m.result ∙ x.1)) (full_is p.depth q)
+  push_outside = outside_by (is_err r) refl
 
 -- ---- the floats of an entry
 

@@ -85,13 +85,10 @@ open_grown u x = grown_by u x (ne u.decode_time -∞) refl
 pub units_same : (w : List Float) (p : Place) (u : Units) (x : Queued) → Lies 3 w p u.pending → x ≡ record { full = false; units = waiting_of w p u } → UnitsTo w p u x (Ok tt) u w
 units_same w p u x l e = rw e (record { lies = l; outside = outside_refl _ _ w; full = refl; state = refl; count = refl })
 
-units_refused : (w : List Float) (p : Place) (u : Units) (x : Queued) → Lies 3 w p u.pending → x ≡ record { full = true; units = waiting_of w p u } → UnitsTo w p u x (Err (record {})) u w
-units_refused w p u x l e = rw e (record { lies = l; outside = outside_refl _ _ w; full = refl; state = refl; count = refl })
-
 -- the push of a unit, with its reading by name
-added : {w v : List Float} {p : Place} {q : Ring} {e : List Float} {r : Option Ring} → Lies 3 w p q → PushedTo 3 w p q e r v → (o : Ring) → r ≡ Some o → entries 3 unit_at v p o ≡ entries 3 unit_at w p q ++ (unit_of e ∷ [])
+added : {w v : List Float} {p : Place} {q o : Ring} {e : List Float} {r : Result ⊤ QueueFull} → Lies 3 w p q → PushedTo 3 w p q e r o v → is_err r ≡ false → entries 3 unit_at v p o ≡ entries 3 unit_at w p q ++ (unit_of e ∷ [])
 unfolding unit_at
-added l m o f = push_adds l m o f unit_of (floats_local 3 unit_of)
+added l m f = push_adds l m f unit_of (floats_local 3 unit_of)
 
 module _ (w : List Float) (p : Place) (u : Units) where
   pub close_none : ne u.open_au.decode_time -∞ ≡ false → close_units p.depth (waiting_of w p u) ≡ record { full = false; units = waiting_of w p u }
@@ -105,26 +102,22 @@ module _ (w : List Float) (p : Place) (u : Units) where
   unfolding close_units close_by waiting_of open_of
   close_unit e = simp (e, count_entries 3 unit_at w p u.pending)
 
-module _ (w v : List Float) (p : Place) (u : Units) (l : Lies 3 w p u.pending) (isOpen : ne u.open_au.decode_time -∞ ≡ true) (r : Option Ring) (m : PushedTo 3 w p u.pending (floats_of_unit u.open_au) r v) where
-  pub close_full : r ≡ None → UnitsTo w p u (close_units p.depth (waiting_of w p u)) (Err (record {})) u v
-  close_full f =
-      let k = push_refused l m f in
-      rw k.0 (units_refused w p u _ l (close_unit w p u isOpen ∙ rw k.1))
+module _ (w v : List Float) (p : Place) (u : Units) (l : Lies 3 w p u.pending) (isOpen : ne u.open_au.decode_time -∞ ≡ true) (r : Result ⊤ QueueFull) (q : Ring)
+    (m : PushedTo 3 w p u.pending (floats_of_unit u.open_au) r q v) where
+  pub close_full : (e : QueueFull) (r' : Result ⊤ QueueFull) → r ≡ Err e → IsErr r' →
+      UnitsTo w p u (close_units p.depth (waiting_of w p u)) r' (record { pending = q; open_au = u.open_au; access_units = u.access_units; max_delay_seconds = u.max_delay_seconds }) v
+  close_full e r' f g =
+      let k = push_refused l m (ap is_err f) in
+      rw (k.0.0, k.0.1, close_unit w p u isOpen, k.1) (record { lies = l; outside = outside_refl _ _ w; full = g; state = refl; count = refl })
 
-  pub close_pushed : (q : Ring) → r ≡ Some q →
+  pub close_pushed : r ≡ Ok tt →
       UnitsTo w p u (close_units p.depth (waiting_of w p u)) (Ok tt) (record { pending = q; open_au = no_unit; access_units = u.access_units; max_delay_seconds = u.max_delay_seconds }) v
   unfolding waiting_of
-  close_pushed q f =
+  close_pushed f =
+      let g : is_err r ≡ false = ap is_err f in
       let e : close_units p.depth (waiting_of w p u) ≡ record { full = false; units = with_open (waiting_of w p u) (entries 3 unit_at w p u.pending ++ (u.open_au ∷ [])) none } =
-      close_unit w p u isOpen ∙ rw (push_room l m q f) in
-      rw e
-      (record {
-        lies = push_lies l m q f;
-        outside = push_outside l m;
-        full = refl;
-        state = rw (added l m q f, open_none);
-        count = refl;
-      })
+      close_unit w p u isOpen ∙ rw (push_room l m g) in
+      rw e (record { lies = push_lies l m; outside = push_outside l m; full = refl; state = rw (added l m g, open_none); count = refl })
 
 -- ---- a stamp
 

@@ -1,7 +1,7 @@
 -- What a packet delivers to a video branch, in terms of the lists in the three rings.
 use Prim.Native.Nat.{ℕ, ◌+◌, ◌*◌, ◌≤◌, ◌<◌}
 use mathlib.Core.Path.{◌≡◌, refl, sym, ap, ◌∙◌}
-use mathlib.Core.Bool.{Bool, true, false, cond, ◌||◌}
+use mathlib.Core.Bool.{Bool, true, false, cond, ◌||◌, true≢false}
 use mathlib.Core.List.{List, [], ◌∷◌, ◌++◌}
 use mathlib.Core.Logic.{◌⊎◌, ◌≢◌, inl, inr}
 use native.Mathlib.Omega.{arith}
@@ -13,14 +13,14 @@ use Rattle.ieee.specs.Binary64.{◌⊕◌, 0f}
 use Rattle.branch.specs.declared.Run.{Run}
 use Rattle.branch.specs.declared.AccessUnit.{AccessUnit}
 use Rattle.branch.specs.declared.inflow.CumulativeIn.{CumulativeIn}
-use Rattle.std.specs.Prelude.{Option, Some, None, Result, Ok, Err, is_some, is_err, ⊤}
+use Rattle.std.specs.Prelude.{Result, Ok, Err, is_err, is_ok, IsErr, ⊤}
 use Rattle.branch.specs.declared.queue.Ring.{Ring}
 use Rattle.branch.specs.declared.leak.VideoLayout.{VideoLayout}
 use Rattle.branch.specs.declared.video_branch.VideoBranch.{VideoBranch}
 use Rattle.branch.specs.declared.leak.Leak.{Leak as LeakState}
 use Rattle.branch.specs.declared.QueueFull.{QueueFull}
 use Rattle.branch.specs.declared.units.Units.{Units}
-use Rattle.branch.specs.Queue.{Lies, SameOutside, floats_at, entries, longer, pushed_def, PushedTo}
+use Rattle.branch.specs.Queue.{Lies, SameOutside, floats_at, entries, PushedTo}
 use Rattle.branch.specs.CumulativeIn.{Inflow, run_refused}
 use Rattle.branch.specs.InflowInWork.{run_of, inflow_of, RunPushedTo}
 use Rattle.branch.specs.Units.{OpenAu, none, unit, Waiting, Queued, close_by as close_units_by, close_units, open_units}
@@ -28,7 +28,7 @@ use Rattle.branch.specs.UnitsInWork.{unit_of, unit_at, waiting_of, grown_units, 
 use Rattle.branch.specs.VideoBranch.{pushed_leak, push_video}
 use Rattle.branch.specs.VideoStep.{VideoChain, VideoFed, refused, fed, and_then, with_pending, close_by, close_au, open_unit, add_run}
 use Rattle.branch.specs.VideoInWork.{mark_of, mark_at, flow_of, leak_of, LeakLies, video_of, VideoLies, chain_of, Apart, VideoFedTo, queued_run, QueuedTo, marked_leak, marked_run, MarkedTo}
-use Rattle.branch.proofs.Rings.{kept, count_entries, floats_local, lies_kept, outside_refl, outside_then, outside_wider, push_adds, push_lies, push_outside}
+use Rattle.branch.proofs.Rings.{kept, count_entries, floats_local, lies_kept, outside_refl, outside_then, outside_wider, push_adds, push_lies, push_outside, push_refused}
 use Rattle.branch.proofs.HeaderMarks.{mark_local}
 use Rattle.branch.proofs.UnitQueues.{open_grown}
 
@@ -148,10 +148,10 @@ module _ (w v : List Float) (m : VideoLayout) (b b' : VideoBranch) (x : VideoFed
 
 -- ---- a run
 
-module _ (w v : List Float) (m : VideoLayout) (b : VideoBranch) (run : Run) (metric : Float) (l : VideoLies w m b) (a : Apart m) (r : Option CumulativeIn)
-    (p : RunPushedTo w m.runs b.leak.mb_in run r v) where
-  abbrev queued : CumulativeIn → VideoBranch
-  queued i =
+module _ (w v : List Float) (m : VideoLayout) (b : VideoBranch) (run : Run) (metric : Float) (l : VideoLies w m b) (a : Apart m) (r : Result ⊤ QueueFull) (i : CumulativeIn)
+    (p : RunPushedTo w m.runs b.leak.mb_in run r i v) where
+  abbrev with_runs : Units → Float → VideoBranch
+  with_runs u queued =
       record {
         leak = record {
           mb_in = i;
@@ -161,8 +161,8 @@ module _ (w v : List Float) (m : VideoLayout) (b : VideoBranch) (run : Run) (met
           mb_peak = b.leak.mb_peak;
           proc_time = b.leak.proc_time;
         };
-        units = grown_units b.units metric;
-        queued = b.queued ⊕ run.bytes;
+        units = u;
+        queued = queued;
         eb_required = b.eb_required;
       }
 
@@ -172,37 +172,48 @@ module _ (w v : List Float) (m : VideoLayout) (b : VideoBranch) (run : Run) (met
   units_same : entries 3 unit_at v m.units b.units.pending ≡ entries 3 unit_at w m.units b.units.pending
   units_same = units_kept w v m b.units.pending l.pending p.outside (inr a.units)
 
-  pub run_queued : (i : CumulativeIn) → r ≡ Some i → QueuedTo w m b run metric (Ok tt) (queued i) v
+  pub run_queued : r ≡ Ok tt → QueuedTo w m b run metric (Ok tt) (with_runs (grown_units b.units metric) (b.queued ⊕ run.bytes)) v
   unfolding chain_of video_of leak_of flow_of queued_run pushed_leak
-  run_queued i f =
-      let k = p.taken i f in
+  run_queued f =
+      let t : is_err r ≡ false = ap is_err f in
       record {
-        lies = record { leak = record { runs = k.lies; marks = lies_kept p.outside l.leak.marks }; pending = lies_kept p.outside l.pending };
+        lies = record { leak = record { runs = p.lies; marks = lies_kept p.outside l.leak.marks }; pending = lies_kept p.outside l.pending };
         outside = p.outside;
         units = refl;
         marks = refl;
-        full = sym k.room;
-        state = rw (k.state, marks_same, units_same, open_grown b.units.open_au metric);
+        full = sym t ∙ p.full;
+        state = rw (p.taken t, marks_same, units_same, open_grown b.units.open_au metric);
       }
 
-  pub run_refused_lem : (q : QueueFull) → r ≡ None → QueuedTo w m b run metric (Err q) b v
-  run_refused_lem q f =
-      let k = p.refused f in
-      rw k.0 (record { lies = l; outside = outside_refl _ _ w; units = refl; marks = refl; full = sym k.1; state = refl })
+  pub run_refused_lem : (q : QueueFull) (r' : Result ⊤ QueueFull) → r ≡ Err q → IsErr r' → QueuedTo w m b run metric r' (with_runs b.units b.queued) v
+  run_refused_lem q r' f g =
+      let t : is_err r ≡ true = ap is_err f in
+      let k = p.refused t in
+      rw (k.0, k.1) (record { lies = l; outside = outside_refl _ _ w; units = refl; marks = refl; full = g ∙ (sym t ∙ p.full); state = rw g refl })
 
 -- ---- a mark
 
-module _ (w v : List Float) (m : VideoLayout) (b : VideoBranch) (bytes : Float) (l : VideoLies w m b) (a : Apart m) (r : Option Ring)
-    (p : PushedTo 2 w m.marks b.leak.flow.marks (b.queued ∷ (bytes ∷ [])) r v) where
-  pub mark_finds_room : b.leak.flow.marks.count < m.marks.depth → is_some r ≡ true
-  unfolding pushed_def
-  mark_finds_room h = ap is_some p.result ∙ ap (λ (z : Bool). is_some (cond z None (Some (longer b.leak.flow.marks)))) (ne_eqb b.leak.flow.marks.count m.marks.depth (λ e. omega arith))
+ok_of : (r : Result ⊤ QueueFull) → is_err r ≡ false → is_ok r ≡ true
+ok_of (Ok a) f = refl
+ok_of (Err e) f = absurd (true≢false f)
 
-  marks_added : (q : Ring) → r ≡ Some q → entries 2 mark_at v m.marks q ≡ entries 2 mark_at w m.marks b.leak.flow.marks ++ (record { threshold = b.queued; bytes = bytes } ∷ [])
+module _ (w v : List Float) (m : VideoLayout) (b : VideoBranch) (bytes : Float) (l : VideoLies w m b) (a : Apart m) (r : Result ⊤ QueueFull) (q : Ring)
+    (p : PushedTo 2 w m.marks b.leak.flow.marks (b.queued ∷ (bytes ∷ [])) r q v) where
+  room_by : (c : Bool) → is_err r ≡ c → b.leak.flow.marks.count < m.marks.depth → is_err r ≡ false
+  room_by true f h = absurd (true≢false (sym (push_refused l.leak.marks p f).1 ∙ ne_eqb b.leak.flow.marks.count m.marks.depth (λ e. omega arith)))
+  room_by false f h = f
+
+  mark_finds_room : b.leak.flow.marks.count < m.marks.depth → is_err r ≡ false
+  mark_finds_room h = room_by (is_err r) refl h
+
+  pub mark_ok : b.leak.flow.marks.count < m.marks.depth → is_ok r ≡ true
+  mark_ok h = ok_of r (mark_finds_room h)
+
+  marks_added : is_err r ≡ false → entries 2 mark_at v m.marks q ≡ entries 2 mark_at w m.marks b.leak.flow.marks ++ (record { threshold = b.queued; bytes = bytes } ∷ [])
   unfolding mark_at
-  marks_added q f = push_adds l.leak.marks p q f mark_of (floats_local 2 mark_of)
+  marks_added f = push_adds l.leak.marks p f mark_of (floats_local 2 mark_of)
 
-  pub run_marked : (q : Ring) → r ≡ Some q → MarkedTo w m b bytes
+  pub run_marked : b.leak.flow.marks.count < m.marks.depth → MarkedTo w m b bytes
       (record {
         leak = record {
           mb_in = b.leak.mb_in;
@@ -224,16 +235,17 @@ module _ (w v : List Float) (m : VideoLayout) (b : VideoBranch) (bytes : Float) 
       })
       v
   unfolding chain_of video_of leak_of flow_of marked_run marked_leak
-  run_marked q f =
+  run_marked h =
+      let f = mark_finds_room h in
       let o = push_outside l.leak.marks p in
       let x = a.units in
       let y = a.marks in
       let runs = kept 3 (λ u i. run_of (floats_at 3 u i)) (floats_local 3 run_of) m.runs b.leak.mb_in.runs l.leak.runs o (inl (omega arith)) in
       record {
-        lies = record { leak = record { runs = lies_kept o l.leak.runs; marks = push_lies l.leak.marks p q f }; pending = lies_kept o l.pending };
+        lies = record { leak = record { runs = lies_kept o l.leak.runs; marks = push_lies l.leak.marks p }; pending = lies_kept o l.pending };
         outside = o;
         units = refl;
-        state = rw (runs, marks_added q f, units_kept w v m b.units.pending l.pending o (inl y));
+        state = rw (runs, marks_added f, units_kept w v m b.units.pending l.pending o (inl y));
       }
 
 -- ---- the runs of a packet

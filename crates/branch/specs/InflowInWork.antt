@@ -1,7 +1,8 @@
 -- A `CumulativeIn` whose runs stand in a ring of the work, as the list of its runs; what its functions ensure.
-use Rattle.std.specs.Prelude.{◌+◌, ◌*◌, ◌≡◌, true, false, Option, Some, None, List, get_or, Float}
+use Rattle.std.specs.Prelude.{◌+◌, ◌*◌, ◌≡◌, true, false, ⊤, Result, is_err, List, get_or, Float}
 use Rattle.std.specs.Float.{nan}
 use Rattle.branch.specs.declared.Run.{Run}
+use Rattle.branch.specs.declared.QueueFull.{QueueFull}
 use Rattle.branch.specs.declared.queue.Place.{Place}
 use Rattle.branch.specs.declared.queue.Ring.{Ring}
 use Rattle.branch.specs.declared.inflow.CumulativeIn.{CumulativeIn}
@@ -27,14 +28,10 @@ pub record ArrivedTo (w : List Float) (p : Place) (c : CumulativeIn) (t : Float)
   pub after : SettledTo w p c t r.inflow
   pub total : r.total ≡ arrived_by (inflow_of w p c) t
 
--- a run that finds a place: v is the work after its push, and o the inflow
-pub record RunTaken (w : List Float) (p : Place) (c : CumulativeIn) (run : Run) (o : CumulativeIn) (v : List Float) : Type 0 where
-  pub lies : Lies 3 v p o.runs
-  pub room : run_refused p.depth (inflow_of w p c) run ≡ false
-  pub state : inflow_of v p o ≡ push_run (inflow_of w p c) run
-
--- v is the work after the push of the run
-pub record RunPushedTo (w : List Float) (p : Place) (c : CumulativeIn) (run : Run) (r : Option CumulativeIn) (v : List Float) : Type 0 where
+-- the push of a run: c' is the inflow, and v the work after it
+pub record RunPushedTo (w : List Float) (p : Place) (c : CumulativeIn) (run : Run) (r : Result ⊤ QueueFull) (c' : CumulativeIn) (v : List Float) : Type 0 where
+  pub lies : Lies 3 v p c'.runs
   pub outside : SameOutside p.base (p.base + 3 * p.depth) w v
-  pub refused : r ≡ None → (v ≡ w) × (run_refused p.depth (inflow_of w p c) run ≡ true)
-  pub taken : (o : CumulativeIn) → r ≡ Some o → RunTaken w p c run o v
+  pub full : is_err r ≡ run_refused p.depth (inflow_of w p c) run
+  pub refused : is_err r ≡ true → (c' ≡ c) × (v ≡ w)
+  pub taken : is_err r ≡ false → inflow_of v p c' ≡ push_run (inflow_of w p c) run

@@ -1,6 +1,7 @@
 -- A queue in a ring of places of the work, over the width of an entry, and the list of its entries.
-use Rattle.std.specs.Prelude.{ℕ, zero, suc, ◌+◌, ◌-◌, ◌*◌, ◌≤◌, ◌<◌, ◌≡◌, Bool, ◌&&◌, cond, List, [], ◌∷◌, ◌⊎◌, Option, Some, None, length, get_or, take, drop, ltb, leb, eqb, Float}
+use Rattle.std.specs.Prelude.{ℕ, zero, suc, ◌+◌, ◌-◌, ◌*◌, ◌≤◌, ◌<◌, ◌≡◌, Bool, ◌&&◌, cond, List, [], ◌∷◌, ◌⊎◌, Option, Some, None, ⊤, Result, is_err, true, false, length, get_or, take, drop, ltb, leb, eqb, Float}
 use Rattle.std.specs.Float.{nan}
+use Rattle.branch.specs.declared.QueueFull.{QueueFull}
 use Rattle.branch.specs.declared.queue.Place.{Place}
 use Rattle.branch.specs.declared.queue.Ring.{Ring}
 
@@ -49,9 +50,9 @@ longer q = record { head = q.head; count = q.count + 1 }
 unfoldable pub pushed_def : ℕ → Ring → Option Ring
 pushed_def depth q = cond (eqb q.count depth) None (Some (longer q))
 
--- a push of e to a ring of entries n floats wide: v is the work after it
-pub record PushedTo (n : ℕ) (w : List Float) (p : Place) (q : Ring) (e : List Float) (r : Option Ring) (v : List Float) : Type 0 where
-  pub result : r ≡ pushed_def p.depth q
-  pub refused : r ≡ None → v ≡ w
+-- a push of e to a ring of entries n floats wide: q' is the ring, and v the work after it
+pub record PushedTo (n : ℕ) (w : List Float) (p : Place) (q : Ring) (e : List Float) (r : Result ⊤ QueueFull) (q' : Ring) (v : List Float) : Type 0 where
+  pub result : cond (is_err r) None (Some q') ≡ pushed_def p.depth q
+  pub refused : is_err r ≡ true → (q' ≡ q) × (v ≡ w)
   pub outside : SameOutside (place_of n p q q.count) (place_of n p q q.count + n) w v
-  pub entry : (o : Ring) → r ≡ Some o → floats_at n v (place_of n p q q.count) ≡ e
+  pub entry : is_err r ≡ false → floats_at n v (place_of n p q q.count) ≡ e

@@ -4,8 +4,8 @@ ghost use Rattle.branch.specs.Queue.{Lies, place_of, floats_at};
 ghost use Rattle.branch.specs.CumulativeIn.{fraction, total_of, final_total, time_of_cumulative};
 ghost use Rattle.branch.specs.InflowInWork.{run_of, inflow_of, runs_of, SettledTo, ArrivedTo, RunPushedTo};
 
-use crate::Run;
-use crate::queue::{Place, Ring, entry, pop, push};
+use crate::queue::{Place, Ring};
+use crate::{QueueFull, Run};
 
 // The runs still tracked, and the bytes of those that are spent.
 #[derive(Clone, Copy)]
@@ -38,21 +38,20 @@ fn run_at(q: Ring, w: Place, work: &[f64], i: usize) -> Run
     requires i_lt_count { i < q.count }
     ensures { result ≡ run_of (floats_at 3 work.now (place_of 3 w q i)) }
 {
-    let [t0, t1, bytes] = entry::<3>(q, w, work, i);
+    let [t0, t1, bytes] = q.entry::<3>(w, work, i);
     Run { t0, t1, bytes }
 }
 
 impl CumulativeIn {
-    // A run without bytes is no run; none where the queue is full.
-    pub(crate) fn push_run(self, w: Place, work: &mut [f64], run: Run) -> Option<CumulativeIn>
-        requires { Lies 3 work.old w self.runs }
-        ensures { RunPushedTo work.old w self run result work.new }
+    // A run without bytes is no run. Nothing changes where the queue is full.
+    pub(crate) fn push_run(&mut self, w: Place, work: &mut [f64], run: Run) -> Result<(), QueueFull>
+        requires { Lies 3 work.old w self.old.runs }
+        ensures { RunPushedTo work.old w self.old run result self.new work.new }
     {
         if !(run.bytes > 0.0) {
-            return Some(self);
+            return Ok(());
         }
-        let runs = push(self.runs, w, work, [run.t0, run.t1, run.bytes])?;
-        Some(CumulativeIn { runs, ..self })
+        self.runs.push(w, work, [run.t0, run.t1, run.bytes])
     }
 
     // The runs that have ended by t go from the ring to the sum.
@@ -66,7 +65,7 @@ impl CumulativeIn {
             let run = run_at(q, w, work, 0);
             if run.t1 <= t {
                 sum = sum + run.bytes;
-                q = pop(q, w);
+                q.pop(w);
             } else {
                 break;
             }

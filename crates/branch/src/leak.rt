@@ -10,7 +10,7 @@ ghost use Rattle.branch.specs.VideoInWork.{rates_of, flow_of, leak_of, HeadersBy
 
 use crate::HeaderMark;
 use crate::inflow::CumulativeIn;
-use crate::queue::{Place, Ring, entry, pop};
+use crate::queue::{Place, Ring};
 use events::{EventKind, Slots};
 use ieee::{max, min};
 
@@ -86,14 +86,14 @@ fn header_bytes(first: Ring, w: Place, work: &[f64], start: f64, end: f64) -> He
     let mut q = first;
     let mut sum = 0.0;
     while 0 < q.count {
-        let [threshold, bytes] = entry::<2>(q, w, work, 0);
+        let [threshold, bytes] = q.entry::<2>(w, work, 0);
         let m = HeaderMark { threshold, bytes };
         if m.threshold - m.bytes >= end {
             break;
         }
         sum = sum + overlap(m, start, end);
         if m.threshold <= end {
-            q = pop(q, w);
+            q.pop(w);
         } else {
             break;
         }

@@ -155,10 +155,7 @@ impl MainBranch {
         if !(run.bytes > 0.0) {
             return Ok(());
         }
-        let Some(inflow) = self.inflow.push_run(runs_place(p), work, run) else {
-            return Err(QueueFull);
-        };
-        self.inflow = inflow;
+        self.inflow.push_run(runs_place(p), work, run)?;
         self.units.grow(run.bytes);
         Ok(())
     }

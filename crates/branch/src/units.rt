@@ -7,7 +7,7 @@ ghost use Rattle.branch.specs.Queue.{Lies};
 ghost use Rattle.branch.specs.Units.{close_units, open_units, stamp_of, unit_events};
 ghost use Rattle.branch.specs.UnitsInWork.{floats_of_unit, no_unit, no_units, waiting_of, UnitsTo, grown_units, FirstOf, DueOf, removed_units};
 
-use crate::queue::{Place, Ring, entry, pop, push};
+use crate::queue::{Place, Ring};
 use crate::{AccessUnit, Delivered, QueueFull};
 use events::{EventKind, Slots};
 
@@ -82,10 +82,7 @@ impl Units {
         if !is_open(self.open_au) {
             return Ok(());
         }
-        let Some(pending) = push(self.pending, w, work, entry_of(self.open_au)) else {
-            return Err(QueueFull);
-        };
-        self.pending = pending;
+        self.pending.push(w, work, entry_of(self.open_au))?;
         self.open_au = no_unit();
         Ok(())
     }
@@ -122,7 +119,7 @@ impl Units {
         if self.pending.count == 0 {
             return None;
         }
-        let [decode_time, bytes, first_input_time] = entry::<3>(self.pending, w, work, 0);
+        let [decode_time, bytes, first_input_time] = self.pending.entry::<3>(w, work, 0);
         Some(AccessUnit {
             decode_time,
             bytes,
@@ -148,7 +145,7 @@ impl Units {
         requires count_bound { self.old.access_units < 18446744073709551615 }
         ensures { self.new ≡ removed_units w.depth self.old u }
     {
-        self.pending = pop(self.pending, w);
+        self.pending.pop(w);
         self.access_units = self.access_units + 1;
         self.max_delay_seconds = ieee::max(
             self.max_delay_seconds,

@@ -7,7 +7,7 @@ ghost use Rattle.branch.specs.VideoInWork.{rates_of, video_of, VideoLies, Remove
 
 use crate::inflow::CumulativeIn;
 use crate::leak::{Flow, Leak, VideoLayout, leak_until};
-use crate::queue::{Place, Ring, push};
+use crate::queue::{Place, Ring};
 use crate::units::{Units, note_removal};
 use crate::{AccessUnit, Delivered, QueueFull, Run};
 use events::{EventKind, Slots};
@@ -150,10 +150,7 @@ impl VideoBranch {
         requires apart { Apart m }
         ensures { QueuedTo work.old m self.old run metric result self.new work.new }
     {
-        let Some(mb_in) = self.leak.mb_in.push_run(m.runs, work, run) else {
-            return Err(QueueFull);
-        };
-        self.leak.mb_in = mb_in;
+        self.leak.mb_in.push_run(m.runs, work, run)?;
         self.units.grow(metric);
         self.queued = self.queued + run.bytes;
         Ok(())
@@ -165,8 +162,8 @@ impl VideoBranch {
         requires apart { Apart m × (self.old.leak.flow.marks.count < m.marks.depth) }
         ensures { MarkedTo work.old m self.old bytes self.new work.new }
     {
-        let marks = push(self.leak.flow.marks, m.marks, work, [self.queued, bytes]);
-        self.leak.flow.marks = marks.unwrap();
+        let mark = [self.queued, bytes];
+        self.leak.flow.marks.push(m.marks, work, mark).unwrap();
     }
 
     // A run of content: its bytes are the open unit's too.

@@ -7,12 +7,12 @@ use Rattle.branch.specs.VideoInWork.{mark_of, mark_at}
 use Rattle.branch.proofs.leak.header_bytes.Goals as goal
 
 pub loop-q-smaller : goal.loop-q-smaller
-loop-q-smaller c = rw (c.pop-q.ensures, count_popped) (omega arith)
+loop-q-smaller c = rw (c.pop.ensures, count_popped) (omega arith)
 
 pub loop-q-preserved : goal.loop-q-preserved
 unfolding mark_at
 loop-q-preserved c =
-    rw (c.pop-q.ensures, c.overlap-sum.ensures) (pass_more _ _ _ _ _ _ _ c.loop-q.invariant _ (ap mark_of c.entry.ensures) (omega arith) c.if-m-end.false c.if-m-end-2.true)
+    rw (c.pop.ensures, c.overlap-sum.ensures) (pass_more _ _ _ _ _ _ _ c.loop-q.invariant _ (ap mark_of c.entry.ensures) (omega arith) c.if-m-end.false c.if-m-end-2.true)
 
 pub returns-after-loop-q : goal.returns-after-loop-q
 returns-after-loop-q c = pass_ends _ _ _ _ _ _ _ c.loop-q.invariant c.loop-q-test.false

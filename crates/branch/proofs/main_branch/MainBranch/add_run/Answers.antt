@@ -5,8 +5,9 @@ use Rattle.branch.proofs.main_branch.MainBranch.add_run.Goals as goal
 pub returns-then-not-run : goal.returns-then-not-run
 returns-then-not-run c = fed_same _ _ _ _ c.requires (no_run _ _ _ c.if-not-run.true)
 
-pub returns-in_default : goal.returns-in_default
-returns-in_default c = add_full _ _ _ _ _ c.if-not-run.false _ c.runs_place.ensures c.requires _ c.push_run.ensures c.in_default.is
+pub returns-in_err-push_run : goal.returns-in_err-push_run
+returns-in_err-push_run c =
+    add_full _ _ _ _ _ c.if-not-run.false _ c.runs_place.ensures c.requires _ _ c.push_run.ensures _ _ c.in_err-push_run.was c.from_residual.ensures.0
 
 pub returns : goal.returns
-returns c = add_pushed _ _ _ _ _ c.if-not-run.false _ c.runs_place.ensures c.requires _ c.push_run.ensures _ _ c.in-Some.is c.grow.ensures
+returns c = add_pushed _ _ _ _ _ c.if-not-run.false _ c.runs_place.ensures c.requires _ _ c.push_run.ensures _ c.in_ok-push_run.was c.grow.ensures
