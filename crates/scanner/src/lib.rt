@@ -2,7 +2,7 @@
 // The Rust's `PesScanner` by value; a payload gives at most three runs, and no loop goes over its bytes.
 #![tactic(auto)]
 
-ghost use Rattle.std.specs.Prelude.{◌≡◌, false, [], ◌++◌, ◌+◌, ◌<◌, ◌≤◌};
+ghost use Rattle.std.specs.Prelude.{◌≡◌, true, false, [], ◌++◌, ◌+◌, ◌<◌, ◌≤◌};
 ghost use Rattle.scanner.specs.Unit.{stamp_bytes, stamp_end_by, content_begin_by, cut, unit};
 ghost use Rattle.syntax.specs.TimeStamp.{timestamp};
 ghost use Rattle.scanner.specs.Joined.{byte_at, stamp_at, listed, decode_ts_in, stamp_here, cuts_by, kept_from, begun_at};
@@ -11,7 +11,7 @@ ghost use Rattle.scanner.specs.State.{header_limit, header_of, idle, in_content,
 // The runs of a payload by their lengths, in its order: the header up to its stamp's end, with the stamp; the rest of the header;
 // content. A run of no bytes is none. The stamp is the decode time that the header announces: 33 bits at 90 kHz, the DTS where it is
 // coded, else the PTS.
-#[derive(Clone, Copy)]
+#[derive(Clone, Copy, Default)]
 pub struct Runs {
     pub head: usize,
     pub decode_ts: Option<u64>,
@@ -20,7 +20,7 @@ pub struct Runs {
 }
 
 // A struct and not an array: an array field would bring its length as a fact that every definition has to carry.
-#[derive(Clone, Copy)]
+#[derive(Clone, Copy, Default)]
 pub struct StampBytes {
     pub b0: u8,
     pub b1: u8,
@@ -30,7 +30,7 @@ pub struct StampBytes {
 }
 
 // Bytes 3, 7, 8, 9 to 13 and 14 to 18 of a unit; 0 where one has not come.
-#[derive(Clone, Copy)]
+#[derive(Clone, Copy, Default)]
 pub struct PesHeader {
     pub stream_id: u8,
     pub flags: u8,
@@ -40,7 +40,8 @@ pub struct PesHeader {
 }
 
 // The open unit: its count of bytes, HEADER_LIMIT once its content has begun, and its header. 16 bytes without padding.
-// Fields and not an enum of the three states: each has its place in a stream's row of fixed memory (crate `rows`).
+// Fields and not an enum of the three states: callers in C hold each field as a word (crate `leaves`), and whatever they hold is a
+// state, so that reading it cannot fail.
 #[derive(Clone, Copy)]
 pub struct PesScanner {
     pub count: u16,
@@ -116,23 +117,19 @@ fn stamp_bytes(flags: u8) -> usize
     }
 }
 
-// Whether a unit has the optional header is asked once of its stream id, and handed to the three functions that depend on it.
+// This, `content_begin` and `decode_ts` speak of a unit that has the optional header.
 #[tactic(auto, unfolding(crate::specs::Unit::stamp_end_by))]
-fn stamp_end(optional: bool, flags: u8, length: u8) -> usize
-    ensures { result ≡ stamp_end_by optional flags length }
+fn stamp_end(flags: u8, length: u8) -> usize
+    ensures { result ≡ stamp_end_by true flags length }
 {
-    if optional {
-        9 + usize::from(length).min(stamp_bytes(flags))
-    } else {
-        6
-    }
+    9 + usize::from(length).min(stamp_bytes(flags))
 }
 
 #[tactic(auto, unfolding(crate::specs::Unit::content_begin_by))]
-fn content_begin(optional: bool, length: u8) -> usize
-    ensures { result ≡ content_begin_by optional length }
+fn content_begin(length: u8) -> usize
+    ensures { result ≡ content_begin_by true length }
 {
-    if optional { 9 + usize::from(length) } else { 6 }
+    9 + usize::from(length)
 }
 
 fn stamp(b: StampBytes) -> u64
@@ -142,12 +139,9 @@ fn stamp(b: StampBytes) -> u64
 }
 
 #[tactic(auto, unfolding(crate::specs::Unit::decode_ts_by, crate::specs::Joined::decode_ts_in))]
-fn decode_ts(optional: bool, flags: u8, h: PesHeader) -> Option<u64>
-    ensures { result ≡ decode_ts_in optional flags h }
+fn decode_ts(flags: u8, h: PesHeader) -> Option<u64>
+    ensures { result ≡ decode_ts_in true flags h }
 {
-    if !optional {
-        return None;
-    }
     match flags {
         2 if 5 <= h.header_data_length => Some(stamp(h.pts)),
         3 if 10 <= h.header_data_length => Some(stamp(h.dts)),
@@ -163,31 +157,40 @@ fn stamp_here(n: usize, size: usize, s: usize, stamp: Option<u64>) -> Option<u64
     if n < s && s - n <= size { stamp } else { None }
 }
 
-#[tactic(auto, unfolding(crate::specs::Unit::cut, crate::specs::Joined::stamp_here))]
-fn cut_runs(n: usize, size: usize, s: usize, t: usize, stamp: Option<u64>) -> Runs
-    ensures { result ≡ cut n size s t stamp }
-{
-    let head = size.min(s.saturating_sub(n));
-    let header = size.min(t.saturating_sub(n));
-    Runs {
-        head,
-        decode_ts: stamp_here(n, size, s, stamp),
-        rest: header.saturating_sub(head),
-        body: size - header,
+impl UnitCuts {
+    // The runs of a payload of so many bytes behind the unit's first n.
+    #[tactic(auto, unfolding(crate::specs::Unit::cut, crate::specs::Joined::stamp_here))]
+    fn runs(self, n: usize, size: usize) -> Runs
+        ensures { result ≡ cut n size self.stamp_end self.content_begin self.stamp }
+    {
+        let head = size.min(self.stamp_end.saturating_sub(n));
+        let header = size.min(self.content_begin.saturating_sub(n));
+        Runs {
+            head,
+            decode_ts: stamp_here(n, size, self.stamp_end, self.stamp),
+            rest: header.saturating_sub(head),
+            body: size - header,
+        }
     }
 }
 
 // The two cuts and the stamp, from the header's bytes.
-#[tactic(auto, unfolding(crate::specs::Joined::cuts_by))]
+#[tactic(auto, unfolding(crate::specs::Joined::cuts_by, crate::specs::Unit::stamp_end_by, crate::specs::Unit::content_begin_by, crate::specs::Joined::decode_ts_in, crate::specs::Unit::decode_ts_by))]
 fn cuts_of(h: PesHeader) -> UnitCuts
     ensures { result ≡ cuts_by h }
 {
-    let optional = pes::has_optional_pes_header(h.stream_id);
+    if !pes::has_optional_pes_header(h.stream_id) {
+        return UnitCuts {
+            stamp_end: 6,
+            content_begin: 6,
+            stamp: None,
+        };
+    }
     let flags = h.flags / 64;
     UnitCuts {
-        stamp_end: stamp_end(optional, flags, h.header_data_length),
-        content_begin: content_begin(optional, h.header_data_length),
-        stamp: decode_ts(optional, flags, h),
+        stamp_end: stamp_end(flags, h.header_data_length),
+        content_begin: content_begin(h.header_data_length),
+        stamp: decode_ts(flags, h),
     }
 }
 
@@ -195,20 +198,7 @@ fn cuts_of(h: PesHeader) -> UnitCuts
 fn no_header() -> PesHeader
     ensures { result ≡ header_of [] }
 {
-    let none = StampBytes {
-        b0: 0,
-        b1: 0,
-        b2: 0,
-        b3: 0,
-        b4: 0,
-    };
-    PesHeader {
-        stream_id: 0,
-        flags: 0,
-        header_data_length: 0,
-        pts: none,
-        dts: none,
-    }
+    PesHeader::default()
 }
 
 #[tactic(auto, unfolding(crate::specs::State::in_content))]
@@ -248,13 +238,7 @@ fn take_in(s: PesScanner, payload: &[u8]) -> Fed
     let h = joined(s.header, n, payload);
     let cuts = cuts_of(h);
     Fed {
-        runs: cut_runs(
-            n,
-            payload.len(),
-            cuts.stamp_end,
-            cuts.content_begin,
-            cuts.stamp,
-        ),
+        runs: cuts.runs(n, payload.len()),
         scanner: kept_behind(n, payload.len(), cuts.content_begin, h),
     }
 }
@@ -280,10 +264,8 @@ fn only(body: usize) -> Runs
     ensures { result ≡ only_body body }
 {
     Runs {
-        head: 0,
-        decode_ts: None,
-        rest: 0,
         body,
+        ..Default::default()
     }
 }
 
