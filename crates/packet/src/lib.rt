@@ -2,9 +2,9 @@
 // Contracts cite the fields of tables 2-2 and 2-6 by name; only the code reads bytes.
 #![tactic(auto)]
 
-ghost use Rattle.std.specs.Prelude.{◌≡◌, cond, true, false, ◌&&◌, [], ◌+◌, ◌-◌, ◌*◌, ◌/◌, ◌%◌, ◌^◌, ◌≤◌, ◌<◌, min, eqb, ltb, leb, length, get_or, take, drop, Option, Some, None, Ok};
+ghost use Rattle.std.specs.Prelude.{◌≡◌, cond, [], ◌+◌, ◌*◌, ◌/◌, ◌%◌, ◌≤◌, ◌<◌, eqb, leb, length, get_or, take, drop, Ok};
 ghost use Rattle.syntax.specs.Bits.{bits};
-ghost use Rattle.packet.specs.AdaptationField.{field_of, field_room, is_set, wants, room_of, extension_room, adaptation_field_of, extension_of, tcimsbf8};
+ghost use Rattle.packet.specs.AdaptationField.{field_of, field_room, wants, room_of, extension_room, adaptation_field_of, extension_of, tcimsbf8};
 ghost use Rattle.packet.specs.Places.{Flagged, Placed, Extended, clock_at, private_data_at, ltw_at, splice_at};
 ghost use Rattle.packet.specs.Packet.{parse_of, packet_of, payload_of, private_data_of};
 ghost use Rattle.packet.specs.Layout.{on_grid, layout_of, window_of};
@@ -35,7 +35,7 @@ pub struct SeamlessSplice {
     pub dts_next_au: u64,
 }
 
-#[derive(Clone, Copy)]
+#[derive(Clone, Copy, Default)]
 pub struct AdaptationFieldExtension {
     pub length: u8,
     pub ltw: Option<Ltw>,
@@ -44,7 +44,7 @@ pub struct AdaptationFieldExtension {
 }
 
 // An optional part is present exactly if its flag is set.
-#[derive(Clone, Copy)]
+#[derive(Clone, Copy, Default)]
 pub struct AdaptationField {
     pub length: u8,
     pub discontinuity_indicator: bool,
@@ -66,7 +66,7 @@ pub struct TsPacket {
     pub transport_scrambling_control: u8,
     pub continuity_counter: u8,
     pub adaptation_field: Option<AdaptationField>,
-    // Where the payload begins: 188 where there is none.
+    // Where the payload begins. Where there is none, 188, at which it would end: `payload` then gives no bytes, and no reader has to ask.
     pub payload_start: usize,
 }
 
@@ -95,8 +95,8 @@ impl From<Truncated> for TsError {
     }
 }
 
-// Where the optional fields stand in an adaptation field, or would. Two functions take the slice, its flags and these: a struct of the
-// three would be no plainer, since they read each by itself.
+// Where the optional fields stand in an adaptation field, or would. Three functions take the slice and its byte of flags, two of them
+// these places as well: no struct holds them together, since each function reads every one by itself.
 #[derive(Clone, Copy)]
 struct Places {
     opcr: usize,
@@ -135,38 +135,21 @@ fn past(on: bool, at: usize, n: usize) -> usize
     if on { at + n } else { at }
 }
 
-fn clock_base(p0: u8, p1: u8, p2: u8, p3: u8, p4: u8) -> u64
-    ensures { result ≡ p0 * 0x200_0000 + p1 * 0x2_0000 + p2 * 0x200 + p3 * 2 + p4 / 128 }
-{
-    u64::from(p0) * 0x200_0000
-        + u64::from(p1) * 0x2_0000
-        + u64::from(p2) * 0x200
-        + u64::from(p3) * 2
-        + u64::from(p4 / 128)
-}
-
-// Not one function with `pid_of`: another field, of another width.
-fn clock_extension(p4: u8, p5: u8) -> u16
-    ensures { result ≡ p4 % 2 * 256 + p5 }
-{
-    u16::from(p4 % 2) * 256 + u16::from(p5)
-}
-
 #[tactic(auto, using(syntax::proofs::Bytes::clock_base, syntax::proofs::Bytes::clock_extension))]
 fn clock_at(raw: &[u8], at: usize) -> ClockReference
     requires { at < 1000 }
     ensures { result ≡ clock_at raw.now at }
 {
+    let high = u32::from_be_bytes([
+        byte_or_zero(raw, at),
+        byte_or_zero(raw, at + 1),
+        byte_or_zero(raw, at + 2),
+        byte_or_zero(raw, at + 3),
+    ]);
     let p4 = byte_or_zero(raw, at + 4);
     ClockReference {
-        base: clock_base(
-            byte_or_zero(raw, at),
-            byte_or_zero(raw, at + 1),
-            byte_or_zero(raw, at + 2),
-            byte_or_zero(raw, at + 3),
-            p4,
-        ),
-        extension: clock_extension(p4, byte_or_zero(raw, at + 5)),
+        base: u64::from(high) * 2 + u64::from(p4 / 128),
+        extension: u16::from_be_bytes([p4 % 2, byte_or_zero(raw, at + 5)]),
     }
 }
 
@@ -196,7 +179,7 @@ fn ltw_at(raw: &[u8], at: usize) -> Ltw
     let b0 = byte_or_zero(raw, at);
     Ltw {
         valid: b0 / 128 == 1,
-        offset: u16::from(b0 % 128) * 256 + u16::from(byte_or_zero(raw, at + 1)),
+        offset: u16::from_be_bytes([b0 % 128, byte_or_zero(raw, at + 1)]),
     }
 }
 
@@ -205,9 +188,12 @@ fn rate_at(raw: &[u8], at: usize) -> u32
     requires { at < 1000 }
     ensures { result ≡ bits raw.now (8 * at + 2) 22 }
 {
-    u32::from(byte_or_zero(raw, at) % 64) * 65536
-        + u32::from(byte_or_zero(raw, at + 1)) * 256
-        + u32::from(byte_or_zero(raw, at + 2))
+    u32::from_be_bytes([
+        0,
+        byte_or_zero(raw, at) % 64,
+        byte_or_zero(raw, at + 1),
+        byte_or_zero(raw, at + 2),
+    ])
 }
 
 #[tactic(auto, using(syntax::proofs::Bytes::head, syntax::proofs::Bytes::stamp, syntax::proofs::TimeStamp::timestamp_of))]
@@ -295,12 +281,7 @@ fn extension_at(raw: &[u8], at: usize) -> AdaptationFieldExtension
 {
     let length = byte_or_zero(raw, at);
     if length == 0 {
-        return AdaptationFieldExtension {
-            length: 0,
-            ltw: None,
-            piecewise_rate: None,
-            seamless_splice: None,
-        };
+        return AdaptationFieldExtension::default();
     }
     let f = byte_or_zero(raw, at + 1);
     let ltw = at + 2;
@@ -369,17 +350,7 @@ fn adaptation_field_of(raw: &[u8]) -> AdaptationField
     ensures { result ≡ adaptation_field_of raw.now }
 {
     if byte_or_zero(raw, 0) == 0 {
-        return AdaptationField {
-            length: 0,
-            discontinuity_indicator: false,
-            random_access_indicator: false,
-            elementary_stream_priority_indicator: false,
-            pcr: None,
-            opcr: None,
-            splice_countdown: None,
-            transport_private_data: None,
-            adaptation_field_extension: None,
-        };
+        return AdaptationField::default();
     }
     let f = byte_or_zero(raw, 1);
     let p = places_of(raw, f);
@@ -407,7 +378,7 @@ pub fn payload_start_of(b3: u8, from: usize) -> usize
 pub fn pid_of(b1: u8, b2: u8) -> u16
     ensures { result ≡ b1 % 32 * 256 + b2 }
 {
-    u16::from(b1 % 32) * 256 + u16::from(b2)
+    u16::from_be_bytes([b1 % 32, b2])
 }
 
 #[tactic(auto, using(crate::proofs::Header::packet_by))]
@@ -486,13 +457,22 @@ pub fn payload(bytes: &[u8], start: usize) -> &[u8]
     part(bytes, start, 188usize.saturating_sub(start))
 }
 
+impl PrivateData {
+    // These bytes of a packet. Ruled out: the byte of the length; bytes behind them.
+    #[tactic(auto, unfolding(crate::specs::Packet::private_data_of))]
+    pub fn bytes_in(self, packet: &[u8]) -> &[u8]
+        ensures { result.now ≡ private_data_of packet.now self.start self.len }
+    {
+        part(packet, self.start.saturating_add(4), self.len)
+    }
+}
+
 // The private data of a packet, by the start and the length that its adaptation field has.
 // Ruled out: the byte of the length; bytes behind them.
-#[tactic(auto, unfolding(crate::specs::Packet::private_data_of))]
 pub fn private_data(bytes: &[u8], start: usize, len: usize) -> &[u8]
     ensures { result.now ≡ private_data_of bytes.now start len }
 {
-    part(bytes, start.saturating_add(4), len)
+    PrivateData { start, len }.bytes_in(bytes)
 }
 
 #[derive(Clone, Copy)]
@@ -516,24 +496,24 @@ impl TsPacketLayout {
         packet_size: 204,
         sync_offset: 0,
     };
-}
 
-// At least two whole packets, and the sync byte in each of the first eight.
-#[tactic(auto, using(crate::proofs::Grid::grid_few, crate::proofs::Grid::grid_not))]
-fn on_grid(buf: &[u8], size: usize, off: usize) -> bool
-    requires { (off < size) × (size ≤ 204) }
-    ensures { result ≡ on_grid buf.now size off }
-{
-    let whole = buf.len() / size;
-    if whole < 2 {
-        return false;
-    }
-    for k in 0..whole.min(8) {
-        if buf[k * size + off] != 0x47 {
+    // At least two whole packets, and the sync byte in each of the first eight.
+    #[tactic(auto, using(crate::proofs::Grid::grid_few, crate::proofs::Grid::grid_not))]
+    fn on_grid(self, buf: &[u8]) -> bool
+        requires { (self.sync_offset < self.packet_size) × (self.packet_size ≤ 204) }
+        ensures { result ≡ on_grid buf.now self.packet_size self.sync_offset }
+    {
+        let whole = buf.len() / self.packet_size;
+        if whole < 2 {
             return false;
         }
+        for k in 0..whole.min(8) {
+            if buf[k * self.packet_size + self.sync_offset] != 0x47 {
+                return false;
+            }
+        }
+        true
     }
-    true
 }
 
 // The layout of a recording by its first packets; the tests stand in the order in which they are tried.
@@ -542,19 +522,19 @@ fn on_grid(buf: &[u8], size: usize, off: usize) -> bool
 pub fn detect_packet_layout(buf: &[u8]) -> Option<TsPacketLayout>
     ensures { result ≡ layout_of buf.now }
 {
-    if on_grid(buf, 188, 0) {
+    if TsPacketLayout::STANDARD.on_grid(buf) {
         return Some(TsPacketLayout::STANDARD);
     }
-    if on_grid(buf, 192, 4) {
+    if TsPacketLayout::PREFIXED_192.on_grid(buf) {
         return Some(TsPacketLayout::PREFIXED_192);
     }
-    if on_grid(buf, 204, 0) {
+    if TsPacketLayout::TRAILER_204.on_grid(buf) {
         return Some(TsPacketLayout::TRAILER_204);
     }
     None
 }
 
-// The 188 bytes from a place on; none where the recording ends sooner.
+// The 188 bytes from a place on; none where the recording ends sooner, which a parse refuses as truncated, so that no caller has to ask.
 // Ruled out: a shorter part at the recording's end; one that begins elsewhere.
 #[tactic(auto, using(crate::proofs::Parts::window_fits))]
 pub fn window_at(bytes: &[u8], from: usize) -> &[u8]

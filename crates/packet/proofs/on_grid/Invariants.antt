@@ -1,8 +1,0 @@
--- `packet::on_grid` meets its contract. The invariant: the packets before k have the sync byte. Assumes nothing.
-use Rattle.packet.specs.Layout.{in_sync}
-use mathlib.Core.Path.{◌≡◌}
-use mathlib.Core.Bool.{true}
-use Rattle.packet.proofs.on_grid.Given as goal
-
-abbrev pub invariant-loop-k : goal.invariant-loop-k
-invariant-loop-k l = in_sync l.buf l.size l.off l.k ≡ true
