@@ -13,17 +13,9 @@ fn text(rt: &impl Print, t: &str) -> io::Result<()> {
     rt.print(t)
 }
 
-fn number(rt: &impl Print, n: u64) -> io::Result<()> {
+fn number(rt: &impl Print, n: impl Into<u64>) -> io::Result<()> {
+    let n: u64 = n.into();
     print!(rt; ",{n}")
-}
-
-// Not one generic function with `byte`: both are one line.
-fn mark(rt: &impl Print, b: bool) -> io::Result<()> {
-    number(rt, u64::from(b))
-}
-
-fn byte(rt: &impl Print, b: u8) -> io::Result<()> {
-    number(rt, u64::from(b))
 }
 
 fn size(rt: &impl Print, n: usize) -> io::Result<()> {
@@ -52,7 +44,7 @@ fn window(rt: &impl Print, buf: &[u8], y: TsPacketLayout, k: usize) -> io::Resul
     text(rt, "window")?;
     size(rt, w.len())?;
     if 0 < w.len() {
-        byte(rt, w[0])?;
+        number(rt, w[0])?;
     }
     line(rt)
 }
@@ -62,7 +54,7 @@ fn clock(rt: &impl Print, c: Option<ClockReference>) -> io::Result<()> {
         None => text(rt, ",-"),
         Some(r) => {
             number(rt, r.base)?;
-            number(rt, u64::from(r.extension))
+            number(rt, r.extension)
         }
     }
 }
@@ -72,8 +64,8 @@ fn countdown(rt: &impl Print, c: Option<i8>) -> io::Result<()> {
     match c {
         None => text(rt, ",-"),
         Some(n) => {
-            mark(rt, n < 0)?;
-            mark(rt, n == -5)
+            number(rt, n < 0)?;
+            number(rt, n == -5)
         }
     }
 }
@@ -82,10 +74,10 @@ fn private_data(rt: &impl Print, bytes: &[u8], p: Option<PrivateData>) -> io::Re
     match p {
         None => text(rt, ",-"),
         Some(p) => {
-            let d = packet::private_data(bytes, p.start, p.len);
+            let d = p.bytes_in(bytes);
             size(rt, d.len())?;
             if 0 < d.len() {
-                byte(rt, d[0])?;
+                number(rt, d[0])?;
             }
             Ok(())
         }
@@ -93,32 +85,32 @@ fn private_data(rt: &impl Print, bytes: &[u8], p: Option<PrivateData>) -> io::Re
 }
 
 fn extension_of(rt: &impl Print, e: AdaptationFieldExtension) -> io::Result<()> {
-    byte(rt, e.length)?;
+    number(rt, e.length)?;
     match e.ltw {
         None => text(rt, ",-")?,
         Some(l) => {
-            mark(rt, l.valid)?;
-            number(rt, u64::from(l.offset))?;
+            number(rt, l.valid)?;
+            number(rt, l.offset)?;
         }
     }
     match e.piecewise_rate {
         None => text(rt, ",-")?,
-        Some(r) => number(rt, u64::from(r))?,
+        Some(r) => number(rt, r)?,
     }
     match e.seamless_splice {
         None => text(rt, ",-"),
         Some(s) => {
-            byte(rt, s.splice_type)?;
+            number(rt, s.splice_type)?;
             number(rt, s.dts_next_au)
         }
     }
 }
 
 fn field(rt: &impl Print, bytes: &[u8], f: AdaptationField) -> io::Result<()> {
-    byte(rt, f.length)?;
-    mark(rt, f.discontinuity_indicator)?;
-    mark(rt, f.random_access_indicator)?;
-    mark(rt, f.elementary_stream_priority_indicator)?;
+    number(rt, f.length)?;
+    number(rt, f.discontinuity_indicator)?;
+    number(rt, f.random_access_indicator)?;
+    number(rt, f.elementary_stream_priority_indicator)?;
     clock(rt, f.pcr)?;
     clock(rt, f.opcr)?;
     countdown(rt, f.splice_countdown)?;
@@ -131,12 +123,12 @@ fn field(rt: &impl Print, bytes: &[u8], f: AdaptationField) -> io::Result<()> {
 
 fn parsed(rt: &impl Print, bytes: &[u8], p: TsPacket) -> io::Result<()> {
     text(rt, "packet")?;
-    number(rt, u64::from(p.pid))?;
-    mark(rt, p.payload_unit_start)?;
-    mark(rt, p.transport_error)?;
-    mark(rt, p.transport_priority)?;
-    byte(rt, p.transport_scrambling_control)?;
-    byte(rt, p.continuity_counter)?;
+    number(rt, p.pid)?;
+    number(rt, p.payload_unit_start)?;
+    number(rt, p.transport_error)?;
+    number(rt, p.transport_priority)?;
+    number(rt, p.transport_scrambling_control)?;
+    number(rt, p.continuity_counter)?;
     size(rt, packet::payload(bytes, p.payload_start).len())?;
     match p.adaptation_field {
         None => text(rt, ",-"),
@@ -154,7 +146,7 @@ fn parse(rt: &impl Print, bytes: &[u8]) -> io::Result<()> {
         }
         Err(TsError::BadSyncByte(b)) => {
             text(rt, "sync")?;
-            byte(rt, b)?;
+            number(rt, b)?;
         }
     }
     line(rt)
