@@ -10,7 +10,7 @@ pub mod units;
 pub mod video_branch;
 
 // A run of bytes delivered over t0 to t1.
-#[derive(Clone, Copy)]
+#[derive(Clone, Copy, Default)]
 pub struct Run {
     pub t0: f64,
     pub t1: f64,

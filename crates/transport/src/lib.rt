@@ -26,21 +26,26 @@ struct Through {
     run: Run,
 }
 
-// When byte k of a packet comes: the Rust's `frac`.
-fn byte_time(t0: f64, span: f64, k: usize) -> f64
-    ensures { result ≡ byte_time t0 span k }
-{
-    t0 + span * ieee::as_float(k as u64) / 188.0
+// When the bytes of a packet come: from t0 on, evenly over the span.
+#[derive(Clone, Copy)]
+struct PacketTime {
+    t0: f64,
+    span: f64,
+}
+
+impl PacketTime {
+    // When byte k comes: the Rust's `frac`.
+    fn of_byte(self, k: usize) -> f64
+        ensures { result ≡ byte_time self.t0 self.span k }
+    {
+        self.t0 + self.span * ieee::as_float(k as u64) / 188.0
+    }
 }
 
 fn no_run() -> Run
     ensures { result ≡ no_run }
 {
-    Run {
-        t0: 0.0,
-        t1: 0.0,
-        bytes: 0.0,
-    }
+    Run::default()
 }
 
 // No stamp and no run: what an empty payload delivers. Ruled out: a stamp at time 0; a run of some bytes.
@@ -97,22 +102,20 @@ fn fits(runs: Runs, payload_start: usize) -> bool
         && runs.body <= 188 - payload_start - runs.head - runs.rest
 }
 
-// The payload is content alone, or has no runs. `begin` is when it begins. What this and `headed` share stays as arguments: a struct of
-// them would be built and copied for each packet.
+// The payload is content alone, or has no runs. `begin` is when it begins.
 fn plain(
     header: FluidFifo,
     body: usize,
     payload_start: usize,
     begin: f64,
-    t0: f64,
-    span: f64,
+    time: PacketTime,
     decode: f64,
 ) -> Arrived
     requires body_bound { payload_start + body < 2 ^ 64 }
-    requires begin_value { begin ≡ byte_time t0 span payload_start }
-    ensures { result ≡ delivery header payload_start (only_body body) (byte_time t0 span) decode }
+    requires begin_value { begin ≡ byte_time time.t0 time.span payload_start }
+    ensures { result ≡ delivery header payload_start (only_body body) (byte_time time.t0 time.span) decode }
 {
-    let end = byte_time(t0, span, payload_start + body);
+    let end = time.of_byte(payload_start + body);
     let x = push_run(header, begin, end, body);
     let delivered = Delivered {
         decode_time: decode,
@@ -132,19 +135,18 @@ fn headed(
     runs: Runs,
     payload_start: usize,
     begin: f64,
-    t0: f64,
-    span: f64,
+    time: PacketTime,
     decode: f64,
 ) -> Arrived
     requires body_bound { payload_start + runs.head + runs.rest + runs.body < 2 ^ 64 }
-    requires begin_value { begin ≡ byte_time t0 span payload_start }
-    ensures { result ≡ delivery header payload_start runs (byte_time t0 span) decode }
+    requires begin_value { begin ≡ byte_time time.t0 time.span payload_start }
+    ensures { result ≡ delivery header payload_start runs (byte_time time.t0 time.span) decode }
 {
     let b = payload_start + runs.head;
     let c = b + runs.rest;
-    let head_end = byte_time(t0, span, b);
-    let rest_end = byte_time(t0, span, c);
-    let body_end = byte_time(t0, span, c + runs.body);
+    let head_end = time.of_byte(b);
+    let rest_end = time.of_byte(c);
+    let body_end = time.of_byte(c + runs.body);
     let x = push_run(header, begin, head_end, runs.head);
     let y = push_run(x.tb, head_end, rest_end, runs.rest);
     let z = push_run(y.tb, rest_end, body_end, runs.body);
@@ -186,14 +188,14 @@ pub fn arrive(
             delivered: nothing_delivered(),
         };
     }
-    let span = u - t0;
-    let begin = byte_time(t0, span, payload_start);
+    let time = PacketTime { t0, span: u - t0 };
+    let begin = time.of_byte(payload_start);
     let header = tb
         .push(t0, begin, ieee::as_float(payload_start as u64))
         .fifo;
     let decode = stamp_time(interval, runs.decode_ts);
     if runs.head + runs.rest == 0 {
-        return plain(header, runs.body, payload_start, begin, t0, span, decode);
+        return plain(header, runs.body, payload_start, begin, time, decode);
     }
-    headed(header, runs, payload_start, begin, t0, span, decode)
+    headed(header, runs, payload_start, begin, time, decode)
 }
