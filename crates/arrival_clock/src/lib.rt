@@ -71,7 +71,7 @@ fn start_behind(start: u64, n: usize) -> u64
 // Only a packet with an adaptation field on the PCR PID is parsed, or one that is not known to lie in the recording. All before the
 // next such packet change the start alone, at once: 0.7 ns a packet, and 1.6 with a call of `other` for each.
 // Ruled out: a clock of the packets before the first that does not parse; a clock with the PCRs of another PID.
-#[tactic(auto, using(crate::proofs::Turns::starts, crate::proofs::Turns::all_passed, crate::proofs::Clock::build_keeps))]
+#[tactic(auto, using(crate::proofs::Turns::starts))]
 pub fn build(
     bytes: &[u8],
     layout: TsPacketLayout,

@@ -4,4 +4,4 @@ use Rattle.arrival_clock.proofs.next_field_on.Goals as goal
 
 pub loop-next-preserved : goal.loop-next-preserved
 loop-next-preserved c =
-    search_on _ _ _ _ _ c.loop-next.invariant (rw c.loop-next.invariant.place_is (c.requires.inside _ c.loop-next-test.true)) (c.has_field_at.ensures c.if-has_field_at.false)
+    search_on _ _ _ _ c.requires c.loop-next.invariant c.loop-next-test.true (c.has_field_at.ensures c.if-has_field_at.false)

@@ -4,4 +4,4 @@ use Rattle.arrival_clock.proofs.Stretch.{Searched}
 use Rattle.arrival_clock.proofs.next_field_on.Given as goal
 
 abbrev pub invariant-loop-next : goal.invariant-loop-next
-invariant-loop-next l = Searched l.pcr_pid l.bytes l.layout.packet_size l.layout.sync_offset l.k l.next l.place
+invariant-loop-next l = Searched l.pcr_pid l.layout l.bytes l.k l.next l.place
