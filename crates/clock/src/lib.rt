@@ -22,6 +22,7 @@ pub struct Pcr {
 }
 
 // The higher one only where it lies closer: a tie takes the lower.
+#[tactic(auto, unfolding(crate::specs::Timestamp::nearest, crate::specs::Timestamp::first, crate::specs::Timestamp::none_closer))]
 fn nearer(lower: u64, higher: u64, reference: u64) -> u64
     ensures { result ≡ nearest reference (lower ∷ higher ∷ []) }
 {
@@ -40,6 +41,7 @@ fn in_epoch(raw_timestamp: u64, epoch: u64) -> u64
 }
 
 // In the epochs below, of and above the reference, lowest first.
+#[tactic(auto, using(crate::proofs::Search::begun, crate::proofs::Search::gone_on))]
 fn nearest_timestamp(raw_timestamp: u64, reference: u64) -> u64
     requires { reference < 2 ^ 64 - timestamp_modulus }
     ensures { result ≡ nearest_timestamp raw_timestamp reference }
