@@ -18,6 +18,7 @@ pub struct PacketHeader {
 
 // None for a packet that does not parse.
 // Ruled out: a header for a packet whose adaptation field is cut short; payload start 4 in a packet that has no payload.
+#[tactic(auto, using(crate::proofs::Headers::short_unparsed, crate::proofs::Headers::sync_unparsed, crate::proofs::Headers::overlong_unparsed))]
 pub fn read(bytes: &[u8]) -> Option<PacketHeader>
     ensures { result ≡ header_of (parse_of bytes.now) }
 {

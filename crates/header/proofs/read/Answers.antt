@@ -1,6 +1,6 @@
 -- `header::read` meets its contract: each way out is a law of the header by its bytes. Assumes nothing.
 use Rattle.packet.proofs.Slices.{of_slice}
-use Rattle.header.proofs.Headers.{short_unparsed, sync_unparsed, overlong_unparsed, parsed, bare_header, field_header}
+use Rattle.header.proofs.Headers.{parsed, bare_header, field_header}
 use Rattle.header.specs.Header.{header_of}
 use Rattle.packet.specs.Packet.{parse_of}
 use Rattle.std.specs.Prelude.{is_ok, not}
@@ -10,19 +10,6 @@ use native.Mathlib.Omega.{arith}
 use Prim.Native.Nat.{ℕ, ◌+◌}
 use Rattle.header.proofs.read.Goals as goal
 use Rattle.header.proofs.read.Goals.{then-has_field+else-from-gt188+else-is_err, else-has_field}
-
-pub returns-then-bytes-lt188 : goal.returns-then-bytes-lt188
-returns-then-bytes-lt188 c = sym (short_unparsed c.args.bytes.now c.if-bytes-lt188.true)
-
-pub returns-then-bytes-ne71 : goal.returns-then-bytes-ne71
-returns-then-bytes-ne71 c =
-    let w = c.args.bytes.now in
-    sym (sync_unparsed w (of_slice w c.type_inv.bytes) c.if-bytes-lt188.false c.if-bytes-ne71.true)
-
-pub returns-then-from-gt188 : goal.returns-then-from-gt188
-returns-then-from-gt188 c =
-    let w = c.args.bytes.now in
-    sym (overlong_unparsed w (of_slice w c.type_inv.bytes) c.if-bytes-lt188.false c.if-has_field.true (omega arith))
 
 pub returns-then-is_err : goal.returns-then-is_err
 returns-then-is_err c =
