@@ -43,6 +43,7 @@ impl Text<'_> {
     }
 
     // By hand and not by `write!`, which promises its bytes where it succeeds and not that it does: every byte of this text is promised.
+    #[tactic(auto, using(crate::proofs::Written::no_longer, crate::proofs::Written::same_text, crate::proofs::Decimal::one_digit, crate::proofs::Decimal::digits_most))]
     fn number(&mut self, n: u64)
         ensures { Appends 20 (decimal n) self.old self.new }
     {
@@ -55,6 +56,7 @@ impl Text<'_> {
     }
 
     // Seconds in microseconds, by the product and the product negated: of their whole numbers one is 0.
+    #[tactic(auto, unfolding(crate::specs::Decimal::microseconds), using(crate::proofs::Written::same_text, crate::proofs::Decimal::not_below))]
     fn micros(&mut self, seconds: f64)
         ensures { Appends 20 (microseconds seconds) self.old self.new }
     {
@@ -137,6 +139,7 @@ impl Text<'_> {
         self.byte(b'\n');
     }
 
+    #[tactic(auto, unfolding(crate::specs::Text::each, crate::specs::Text::violation_lines), using(crate::proofs::Written::nothing, crate::proofs::Lines::all_lines))]
     pub(crate) fn violation_lines(&mut self, report: TStdReport)
         ensures { Appends 7360 (violation_lines report) self.old self.new }
     {
@@ -145,6 +148,7 @@ impl Text<'_> {
         }
     }
 
+    #[tactic(auto, unfolding(crate::specs::Text::each, crate::specs::Text::chain_lines), using(crate::proofs::Written::nothing, crate::proofs::Lines::all_lines))]
     pub(crate) fn chain_lines(&mut self, figures: Figures)
         ensures { Appends 1188 (chain_lines figures) self.old self.new }
     {

@@ -2,12 +2,8 @@
 use mathlib.Core.Path.{sym}
 use native.Mathlib.Omega.{arith}
 use Rattle.lines.proofs.Written.{no_longer, same_text, behind}
-use Rattle.lines.proofs.Decimal.{one_digit, last_digit, digits_most}
+use Rattle.lines.proofs.Decimal.{last_digit, digits_most}
 use Rattle.lines.proofs.text.Text.+number.Goals as goal
-
-pub returns-then-n-lt10 : goal.returns-then-n-lt10
-returns-then-n-lt10 t c =
-    no_longer (same_text c.byte.ensures (sym (one_digit _ c.if-n-lt10.true))) 20 (digits_most 19 c.args.n (omega (arith, c.ranges.n)))
 
 pub returns : goal.returns
 returns t c =

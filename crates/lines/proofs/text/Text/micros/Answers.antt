@@ -5,18 +5,9 @@ use mathlib.Core.List.{◌++◌}
 use Rattle.ieee.specs.Binary64.{◌⊗◌, 1000000f}
 use Rattle.lines.specs.Decimal.{ascii, decimal, microseconds}
 use Rattle.lines.proofs.Written.{no_longer, same_text, behind}
-use Rattle.lines.proofs.Decimal.{digits_most, below, not_below}
+use Rattle.lines.proofs.Decimal.{digits_most, below}
 use native.Mathlib.Omega.{arith}
 use Rattle.lines.proofs.text.Text.micros.Goals as goal
-
-pub returns-then-below-eq0 : goal.returns-then-below-eq0
-unfolding microseconds
-returns-then-below-eq0 c =
-    let x = c.args.seconds ⊗ 1000000f in
-    let none = sym (ap (λ (k : ℕ). min k 9223372036854775808) c.to_u64.ensures) ∙ sym c.min-below.ensures ∙ c.if-below-eq0.true in
-    same_text
-    c.number.ensures
-    (ap decimal (c.min.ensures ∙ ap (λ (k : ℕ). min k 9223372036854775807) c.to_u64-then-below-eq0.ensures) ∙ sym (not_below x none))
 
 pub returns : goal.returns
 unfolding microseconds
