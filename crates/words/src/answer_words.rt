@@ -12,6 +12,7 @@ use error::Code;
 pub const MOST_PLACE: u64 = 1099511627775;
 
 // Number + 256 * PID + 2^24 * place. Ruled out: PID and place exchanged; a place past 2^40 that wraps to a small one.
+#[tactic(auto, unfolding(crate::specs::Answer::answer_word))]
 pub fn answer_word(code: Code) -> u64
     ensures { result ≡ answer_word code }
 {
@@ -19,6 +20,7 @@ pub fn answer_word(code: Code) -> u64
 }
 
 // Ruled out: a row or report changed by a refusal; the report of an accepted recording left as it was.
+#[tactic(auto, unfolding(crate::specs::Answer::row_told, crate::specs::Answer::report_told))]
 pub fn write_answer(answer: Answer, row: &mut [u64], report: &mut [u64]) -> u64
     ensures { Told answer result row.old row.new report.old report.new }
 {

