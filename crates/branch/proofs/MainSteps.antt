@@ -17,13 +17,17 @@ use Rattle.branch.specs.declared.main_branch.MainModel.{MainModel}
 use Rattle.branch.specs.declared.main_branch.MainBranch.{MainBranch}
 use Rattle.branch.specs.declared.QueueFull.{QueueFull}
 use Rattle.std.specs.Prelude.{⊤, Result, Ok, Err, is_err, IsErr}
-use Rattle.branch.specs.Queue.{floats_at}
+use Rattle.branch.specs.declared.queue.Place.{Place}
+use Rattle.branch.specs.Queue.{Lies, floats_at}
 use Rattle.branch.specs.InflowInWork.{run_of}
 use Rattle.branch.specs.MainBranch.{Main, OpenAu, none, unit, Drained, drain, look_at_end, finish, with_units, close_by, close_au, deliver, packet_step, end_step, main_step, new_main}
-use Rattle.branch.specs.UnitsInWork.{unit_at}
+use Rattle.branch.specs.declared.units.Units.{Units}
+use Rattle.branch.specs.Units.{close_units}
+use Rattle.branch.specs.UnitsInWork.{unit_at, waiting_of, UnitsTo}
 use Rattle.branch.specs.MainInWork.{new_branch, no_entries, runs_place, units_place, main_of, BranchLies, ready, DrainedTo, FedTo, SteppedTo, Unchanged, StepOf, FinishOf, CloseOf}
 use Rattle.branch.proofs.Rings.{both, ring_fits, lying_fits, no_entries_lem}
 use Rattle.branch.proofs.UnitQueues.{open_none}
+use Rattle.branch.proofs.Feeding.{units_closed}
 
 -- ---- the test
 
@@ -45,6 +49,26 @@ ready_lies w p b k e =
       units = ltb-true _ _ e2.1;
       slots = ltb-true _ _ e1.1;
     }
+
+-- what the test gives to each call behind it
+module _ (w : List Float) (p : MainModel) (b : MainBranch) (k : ℕ) (e : ready (length w) p b k ≡ true) where
+  pub ready_branch : BranchLies w p b
+  ready_branch = (ready_lies w p b k e).lies
+
+  pub ready_pending : (pl : Place) → pl ≡ units_place p → Lies 3 w pl b.units.pending
+  ready_pending pl a = rw a (ready_lies w p b k e).lies.pending
+
+  pub ready_slots : k < 64
+  ready_slots = (ready_lies w p b k e).slots
+
+  pub ready_room : length w ≤ 1152921504606846976 → p.base + 6 * p.depth ≤ 9223372036854775807
+  ready_room h = let r = (ready_lies w p b k e).lies.pending.room in omega arith
+
+  pub ready_bound : length w ≤ 1152921504606846976 → (k < 64) × (b.units.access_units + b.units.pending.count ≤ 18446744073709551615)
+  ready_bound h =
+      let r = ready_lies w p b k e in
+      let o = r.units in
+      (r.slots, omega (arith, r.lies.pending.some, r.lies.pending.room))
 
 -- the other way: what a caller shows before a step
 pub lies_ready : (w : List Float) (p : MainModel) (b : MainBranch) (k : ℕ) → Ready w p b k → ready (length w) p b k ≡ true
@@ -70,76 +94,90 @@ module _ (w : List Float) (p : MainModel) (b : MainBranch) (k : ℕ) (s : Slots)
     pub step_not_ready : ready (length w) p b k ≡ false → StepOf w p b d t k s (Ok tt) b w s
     step_not_ready e = record { steps = λ f. absurd (true≢false (sym f ∙ e)); otherwise = λ f. unchanged }
 
-    step_ready : (r : Result ⊤ QueueFull) (c : MainBranch) (v : List Float) (s' : Slots) → Ready w p b k → SteppedTo w p k s (main_step p.buffer_size p.depth d false t (main_of w p b)) r c v s' → StepOf w p b d t k s r c v s'
-    step_ready r c v s' a m = record { steps = λ f. m; otherwise = λ f. absurd (true≢false (sym (lies_ready w p b k a) ∙ f)) }
-
     -- what is drained, and what is delivered to it
-    pub step_made : (m c : MainBranch) (x : Slots) (r : Result ⊤ QueueFull) (v : List Float) → Ready w p b k → DrainedTo w p k s (drain p.buffer_size t (main_of w p b)) m x →
+    pub step_made : (m c : MainBranch) (x : Slots) (r : Result ⊤ QueueFull) (v : List Float) → ready (length w) p b k ≡ true → DrainedTo w p k s (drain p.buffer_size t (main_of w p b)) m x →
         FedTo w p m (deliver p.depth d (main_of w p m)) r c v → StepOf w p b d t k s r c v x
     unfolding main_step packet_step
-    step_made m c x r v a dr l =
-        step_ready r c v x a
-        (record {
-          lies = l.lies;
-          outside = l.outside;
-          full = l.full ∙ ap (λ (z : Main). (deliver p.depth d z).full) dr.state;
-          state = l.state ∙ ap (λ (z : Main). (deliver p.depth d z).branch) dr.state;
-          slots = dr.slots;
-        })
+    step_made m c x r v e dr l =
+        record {
+          steps = λ f. record {
+            lies = l.lies;
+            outside = l.outside;
+            full = l.full ∙ ap (λ (z : Main). (deliver p.depth d z).full) dr.state;
+            state = l.state ∙ ap (λ (z : Main). (deliver p.depth d z).branch) dr.state;
+            slots = dr.slots;
+          };
+          otherwise = λ f. absurd (true≢false (sym e ∙ f));
+        }
 
   pub finish_not_ready : ready (length w) p b k ≡ false → FinishOf w p b k s (Ok tt) b w s
   finish_not_ready e = record { ends = λ f. absurd (true≢false (sym f ∙ e)); otherwise = λ f. unchanged }
 
-  finish_ready : (r : Result ⊤ QueueFull) (c : MainBranch) (v : List Float) (s' : Slots) → Ready w p b k → SteppedTo w p k s (end_step p.buffer_size (close_au p.depth (main_of w p b))) r c v s' → FinishOf w p b k s r c v s'
-  finish_ready r c v s' a m = record { ends = λ f. m; otherwise = λ f. absurd (true≢false (sym (lies_ready w p b k a) ∙ f)) }
+-- what the units are closed to, where the test is passed
+module _ (w : List Float) (p : MainModel) (b : MainBranch) (k : ℕ) (e : ready (length w) p b k ≡ true) (pl : Place) (at : pl ≡ units_place p) (u : List Float) (r : Result ⊤ QueueFull) (q : Units) (cl : UnitsTo w pl b.units (close_units pl.depth (waiting_of w pl b.units)) r q u) where
+  abbrev closed : MainBranch
+  closed = record { inflow = b.inflow; units = q; removed = b.removed; required = b.required; peak = b.peak }
 
-  module _ (u : List Float) (r : Result ⊤ QueueFull) (c : MainBranch) (a : Ready w p b k) (cl : FedTo w p b (close_au p.depth (main_of w p b)) r c u) where
-    -- the open unit finds no place
-    pub finish_refused : (e : QueueFull) (r' : Result ⊤ QueueFull) → r ≡ Err e → IsErr r' → FinishOf w p b k s r' c u s
-    unfolding end_step noted_all
-    finish_refused e r' f h =
-        let full : (close_au p.depth (main_of w p b)).full ≡ true = sym cl.full ∙ ap is_err f in
-        finish_ready r' c u s a (rw full (record { lies = cl.lies; outside = cl.outside; full = h; state = cl.state; slots = refl }))
+  closed_to : FedTo w p b (close_au p.depth (main_of w p b)) r closed u
+  closed_to = units_closed w u p b pl at (ready_branch w p b k e) r q cl
 
-    -- every removal, and the look at the end
-    pub finish_made : (m z : MainBranch) (x y : Slots) → r ≡ Ok tt → DrainedTo u p k s (drain p.buffer_size +∞ (main_of u p c)) m x →
-        DrainedTo u p k x (look_at_end p.buffer_size (main_of u p m)) z y → FinishOf w p b k s (Ok tt) z u y
-    unfolding end_step finish
-    finish_made m z x y f dr l =
-        let F = close_au p.depth (main_of w p b) in
-        let size = p.buffer_size in
-        let full : F.full ≡ false = sym cl.full ∙ ap is_err f in
-        let D : drain size +∞ (main_of u p c) ≡ drain size +∞ F.branch = ap (drain size +∞) cl.state in
-        let here : main_of u p m ≡ (drain size +∞ F.branch).branch = dr.state ∙ ap (λ (z : Drained). z.branch) D in
-        finish_ready (Ok tt) z u y a
-        (rw full
-        (record {
-          lies = l.lies;
-          outside = cl.outside;
-          full = refl;
-          state = l.state ∙ ap (λ (z : Main). (look_at_end size z).branch) here;
-          slots =
-              l.slots
-              ∙ (ap (λ (z : Main). noted_all k (look_at_end size z).events x) here
-              ∙ (ap (noted_all k (look_at_end size (drain size +∞ F.branch).branch).events) (dr.slots ∙ ap (λ (z : Drained). noted_all k z.events s) D)
-              ∙ sym (noted_all_append_lem k (drain size +∞ F.branch).events (look_at_end size (drain size +∞ F.branch).branch).events s)));
-        }))
+  finish_ready : (s : Slots) (r' : Result ⊤ QueueFull) (z : MainBranch) (y : Slots) → SteppedTo w p k s (end_step p.buffer_size (close_au p.depth (main_of w p b))) r' z u y → FinishOf w p b k s r' z u y
+  finish_ready s r' z y m = record { ends = λ f. m; otherwise = λ f. absurd (true≢false (sym e ∙ f)) }
 
--- the count of units has room for a removal of every pending one
-pub room_to_drain : {w u : List Float} {p : MainModel} {b c : MainBranch} {k : ℕ} → length w ≤ 1152921504606846976 → Ready w p b k → BranchLies u p c → c.units.access_units ≡ b.units.access_units → c.units.access_units + c.units.pending.count ≤ 18446744073709551615
-room_to_drain h a m n =
-    let l = m.pending in
-    let z = a.lies.pending in
-    let o = a.units in
-    omega (arith, l.some, z.room)
+  -- the open unit finds no place
+  pub finish_refused : (s : Slots) (x : QueueFull) (r' : Result ⊤ QueueFull) → r ≡ Err x → IsErr r' → FinishOf w p b k s r' closed u s
+  unfolding end_step noted_all
+  finish_refused s x r' f h =
+      let m = closed_to in
+      let full : (close_au p.depth (main_of w p b)).full ≡ true = sym m.full ∙ ap is_err f in
+      finish_ready s r' closed s (rw full (record { lies = m.lies; outside = m.outside; full = h; state = m.state; slots = refl }))
+
+  pub closed_lies : BranchLies u p closed
+  closed_lies = closed_to.lies
+
+  -- the count of units has room for a removal of every pending one
+  pub closed_bound : length w ≤ 1152921504606846976 → (k < 64) × (q.access_units + q.pending.count ≤ 18446744073709551615)
+  closed_bound h =
+      let a = ready_lies w p b k e in
+      let n = cl.count in
+      let o = a.units in
+      let i : q.pending.count ≤ p.depth = rw at at cl.lies.some in
+      (a.slots, omega (arith, a.lies.pending.room))
+
+  -- every removal, and the look at the end
+  pub finish_made : (m z : MainBranch) (s x y : Slots) → r ≡ Ok tt → DrainedTo u p k s (drain p.buffer_size +∞ (main_of u p closed)) m x →
+      DrainedTo u p k x (look_at_end p.buffer_size (main_of u p m)) z y → FinishOf w p b k s (Ok tt) z u y
+  unfolding end_step finish
+  finish_made m z s x y f dr l =
+      let F = close_au p.depth (main_of w p b) in
+      let c = closed_to in
+      let size = p.buffer_size in
+      let full : F.full ≡ false = sym c.full ∙ ap is_err f in
+      let D : drain size +∞ (main_of u p closed) ≡ drain size +∞ F.branch = ap (drain size +∞) c.state in
+      let here : main_of u p m ≡ (drain size +∞ F.branch).branch = dr.state ∙ ap (λ (z : Drained). z.branch) D in
+      finish_ready s (Ok tt) z y
+      (rw full
+      (record {
+        lies = l.lies;
+        outside = c.outside;
+        full = refl;
+        state = l.state ∙ ap (λ (z : Main). (look_at_end size z).branch) here;
+        slots =
+            l.slots
+            ∙ (ap (λ (z : Main). noted_all k (look_at_end size z).events x) here
+            ∙ (ap (noted_all k (look_at_end size (drain size +∞ F.branch).branch).events) (dr.slots ∙ ap (λ (z : Drained). noted_all k z.events s) D)
+            ∙ sym (noted_all_append_lem k (drain size +∞ F.branch).events (look_at_end size (drain size +∞ F.branch).branch).events s)));
+      }))
 
 -- ---- a close
 
-pub close_not_ready : (w : List Float) (p : MainModel) (b : MainBranch) → ready (length w) p b 0 ≡ false → CloseOf w p b (Ok tt) b w
-close_not_ready w p b e = record { closes = λ f. absurd (true≢false (sym f ∙ e)); otherwise = λ f. (refl, (refl, refl)) }
+module _ (w : List Float) (p : MainModel) (b : MainBranch) where
+  pub close_not_ready : ready (length w) p b 0 ≡ false → CloseOf w p b (Ok tt) b w
+  close_not_ready e = record { closes = λ f. absurd (true≢false (sym f ∙ e)); otherwise = λ f. (refl, (refl, refl)) }
 
-pub close_ready : (w v : List Float) (p : MainModel) (b c : MainBranch) (r : Result ⊤ QueueFull) → ready (length w) p b 0 ≡ true → FedTo w p b (close_au p.depth (main_of w p b)) r c v → CloseOf w p b r c v
-close_ready w v p b c r e m = record { closes = λ f. m; otherwise = λ f. absurd (true≢false (sym e ∙ f)) }
+  pub close_made : ready (length w) p b 0 ≡ true → (pl : Place) → pl ≡ units_place p → (v : List Float) (r : Result ⊤ QueueFull) (q : Units) → UnitsTo w pl b.units (close_units pl.depth (waiting_of w pl b.units)) r q v →
+      CloseOf w p b r (record { inflow = b.inflow; units = q; removed = b.removed; required = b.required; peak = b.peak }) v
+  close_made e pl at v r q m = record { closes = λ f. units_closed w v p b pl at (ready_branch w p b 0 e) r q m; otherwise = λ f. absurd (true≢false (sym e ∙ f)) }
 
 -- ---- a caller that closes first, and then steps to the end
 

@@ -9,7 +9,9 @@ use crate::units::{Units, note_removal};
 use crate::{AccessUnit, Delivered, QueueFull, Run};
 use events::{EventKind, Slots};
 
-// What does not change: BSn in bytes, and where the chain's part of the work begins, with the depth of its two rings.
+// What does not change: BSn in bytes, and where the chain's part of the work begins, with the depth of its two rings. The work is handed
+// on beside it, since one work is lent for all chains (see Place); so the clause BranchLies says where the rings lie. The slots are
+// handed on beside k, where those of the chain begin: one Slots counts the events of all chains in one order.
 #[derive(Clone, Copy)]
 pub struct MainModel {
     pub buffer_size: f64,
@@ -82,6 +84,7 @@ impl MainBranch {
 
     // At the end the unit whose bytes were arriving becomes a pending one. Ruled out: a unit that is dropped where its queue is full;
     // a unit that is pending and still open.
+    #[tactic(auto, using(crate::proofs::MainSteps::close_not_ready, crate::proofs::MainSteps::close_made, crate::proofs::MainSteps::ready_room, crate::proofs::MainSteps::ready_pending))]
     pub fn close(&mut self, p: MainModel, work: &mut [f64]) -> Result<(), QueueFull>
         ensures { CloseOf work.old p self.old result self.new work.new }
     {
@@ -117,6 +120,7 @@ impl MainBranch {
     }
 
     // Every pending unit with a decode time up to the frontier is removed, in queue order.
+    #[tactic(auto, using(crate::proofs::Removals::drain_stops, crate::proofs::Removals::drain_ends))]
     fn drain(&mut self, p: MainModel, work: &[f64], frontier: f64, slots: &mut Slots, k: usize)
         requires branch_lies { BranchLies work.now p self.old }
         requires k_bound { (k < 64) × (self.old.units.access_units + self.old.units.pending.count ≤ 18446744073709551615) }
@@ -148,6 +152,7 @@ impl MainBranch {
     }
 
     // A run goes into the main buffer; its bytes are the open unit's too.
+    #[tactic(auto, using(crate::proofs::Feeding::fed_same, crate::proofs::Feeding::no_run))]
     fn add_run(&mut self, p: MainModel, work: &mut [f64], run: Run) -> Result<(), QueueFull>
         requires { BranchLies work.old p self.old }
         ensures { FedTo work.old p self.old (add_run p.depth run (main_of work.old p self.old)) result self.new work.new }
@@ -173,6 +178,7 @@ impl MainBranch {
 
     // A packet that arrives at t and delivers d. Its events go to the slots from k on.
     // Ruled out: a unit closed after the run that opens the next; a queue called full with a place left; work of another chain written.
+    #[tactic(auto, using(crate::proofs::MainSteps::step_not_ready, crate::proofs::MainSteps::step_made, crate::proofs::MainSteps::ready_branch, crate::proofs::MainSteps::ready_bound))]
     pub fn step(
         &mut self,
         p: MainModel,
@@ -193,6 +199,7 @@ impl MainBranch {
 
     // The end of the stream: the open unit becomes a pending one, every unit is removed, and the fullness of all that arrives is looked at.
     // Ruled out: a unit that is still pending; an overflow after the last removal that is not noted.
+    #[tactic(auto, using(crate::proofs::MainSteps::finish_not_ready, crate::proofs::MainSteps::ready_room, crate::proofs::MainSteps::ready_pending, crate::proofs::MainSteps::ready_slots))]
     pub fn finish(
         &mut self,
         p: MainModel,

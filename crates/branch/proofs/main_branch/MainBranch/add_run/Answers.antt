@@ -1,9 +1,6 @@
 -- `branch::main_branch::MainBranch::add_run` meets its contract. Assumes nothing.
-use Rattle.branch.proofs.Feeding.{fed_same, no_run, add_full, add_pushed}
+use Rattle.branch.proofs.Feeding.{add_full, add_pushed}
 use Rattle.branch.proofs.main_branch.MainBranch.add_run.Goals as goal
-
-pub returns-then-not-run : goal.returns-then-not-run
-returns-then-not-run c = fed_same _ _ _ _ c.requires (no_run _ _ _ c.if-not-run.true)
 
 pub returns-in_err-push_run : goal.returns-in_err-push_run
 returns-in_err-push_run c =
