@@ -1,6 +1,7 @@
 pub mod Stores
 pub mod Rings
 pub mod UnitQueues
+pub mod UnitCounts
 pub mod Settling
 pub mod Inflows
 pub mod Removals

@@ -4,7 +4,7 @@ use mathlib.Core.Path.{◌≡◌, refl, ◌∙◌}
 use mathlib.Core.Bool.{Bool, true, false, ◌&&◌, ◌||◌}
 use mathlib.Core.List.{List, [], ◌∷◌}
 use native.Mathlib.Omega.{arith}
-use lib.ListN.{length, length-append}
+use lib.ListN.{length}
 use lib.Dec.{eqb}
 use lib.Ieee.{Float, le}
 use Rattle.ieee.specs.Binary64.{0f}
@@ -12,10 +12,11 @@ use Rattle.branch.specs.declared.Run.{Run}
 use Rattle.branch.specs.declared.AccessUnit.{AccessUnit}
 use Rattle.branch.specs.declared.Delivered.{Delivered}
 use Rattle.branch.specs.CumulativeIn.{run_refused}
-use Rattle.branch.specs.MainBranch.{OpenAu, none, unit, stamp_of}
+use Rattle.branch.specs.MainBranch.{OpenAu, stamp_of}
 use Rattle.branch.specs.VideoBranch.{VideoRates, Video, remove_unit, advance_from, advance, drain_time, finish_video, push_video}
-use Rattle.branch.specs.VideoStep.{VideoChain, VideoFed, fed, and_then, with_pending, close_by, close_au, open_unit, add_run, deliver, packet_step, end_step, video_step}
+use Rattle.branch.specs.VideoStep.{VideoChain, VideoFed, and_then, waiting, close_au, open_unit, add_run, deliver, packet_step, end_step, video_step}
 use Rattle.branch.proofs.VideoAdvance.{leaked}
+use Rattle.branch.proofs.UnitCounts as unit-counts
 
 abbrev pub units_in : Video → ℕ
 units_in v = v.units + length v.pending
@@ -40,20 +41,13 @@ finish_counts : (r : VideoRates) (v : Video) → units_in (finish_video r v).bra
 unfolding finish_video
 finish_counts r v = advance_counts r (drain_time r v) v
 
--- closing a unit adds one
-close_by_lem : (depth : ℕ) (c : VideoChain) (u : AccessUnit) (b : Bool) → eqb (length c.branch.pending) depth ≡ b → units_in (close_by depth c (unit u)).chain.branch ≤ units_in c.branch + 1
-unfolding close_by with_pending
-close_by_lem depth c u true e = simp e (omega arith)
-close_by_lem depth c u false e = simp (e, length-append) (omega arith)
-
-close_of : (depth : ℕ) (c : VideoChain) (o : OpenAu) → units_in (close_by depth c o).chain.branch ≤ units_in c.branch + 1
-unfolding close_by
-close_of depth c none = omega arith
-close_of depth c (unit u) = close_by_lem depth c u (eqb (length c.branch.pending) depth) refl
-
 close_counts : (depth : ℕ) (c : VideoChain) → units_in (close_au depth c).chain.branch ≤ units_in c.branch + 1
 unfolding close_au
-close_counts depth c = close_of depth c c.open_au
+close_counts depth c = unit-counts.close_counts depth (waiting c)
+
+open_counts : (depth : ℕ) (o : OpenAu) (c : VideoChain) → units_in (open_unit depth o c).chain.branch ≤ units_in c.branch + 1
+unfolding open_unit
+open_counts depth o c = unit-counts.open_counts depth o (waiting c)
 
 -- a refusal or what follows
 then_by : (x : VideoFed) (g : VideoChain → VideoFed) (b : Bool) → x.full ≡ b → ((c : VideoChain) → units_in (g c).chain.branch ≡ units_in c.branch) → units_in (and_then x g).chain.branch ≡ units_in x.chain.branch
@@ -63,11 +57,6 @@ then_by x g false e h = simp e (h x.chain)
 
 then_counts : (x : VideoFed) (g : VideoChain → VideoFed) → ((c : VideoChain) → units_in (g c).chain.branch ≡ units_in c.branch) → units_in (and_then x g).chain.branch ≡ units_in x.chain.branch
 then_counts x g h = then_by x g x.full refl h
-
-open_counts : (depth : ℕ) (o : OpenAu) (c : VideoChain) → units_in (open_unit depth o c).chain.branch ≤ units_in c.branch + 1
-unfolding open_unit
-open_counts depth none c = omega arith
-open_counts depth (unit u) c = rw (then_counts (close_au depth c) (λ n. fed (record { branch = n.branch; open_au = unit u })) (λ x. refl)) (close_counts depth c)
 
 -- a run adds none
 run_by : (depth : ℕ) (header : Bool) (r : Run) (c : VideoChain) (a b : Bool) → le r.bytes 0f ≡ a

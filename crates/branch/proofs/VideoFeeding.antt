@@ -1,6 +1,6 @@
 -- What a packet delivers to a video branch, in terms of the lists in the three rings.
 use Prim.Native.Nat.{ℕ, ◌+◌, ◌*◌, ◌≤◌, ◌<◌}
-use mathlib.Core.Path.{◌≡◌, refl, sym, ap, ◌∙◌}
+use mathlib.Core.Path.{◌≡◌, refl, sym, ap, subst, ◌∙◌}
 use mathlib.Core.Bool.{Bool, true, false, cond, ◌||◌, true≢false}
 use mathlib.Core.List.{List, [], ◌∷◌, ◌++◌}
 use mathlib.Core.Logic.{◌⊎◌, ◌≢◌, inl, inr}
@@ -11,7 +11,6 @@ use borrow.Author.Tests.{eq-eqb, ne_eqb}
 use lib.Ieee.{Float, le}
 use Rattle.ieee.specs.Binary64.{◌⊕◌, 0f}
 use Rattle.branch.specs.declared.Run.{Run}
-use Rattle.branch.specs.declared.AccessUnit.{AccessUnit}
 use Rattle.branch.specs.declared.inflow.CumulativeIn.{CumulativeIn}
 use Rattle.std.specs.Prelude.{Result, Ok, Err, is_err, is_ok, IsErr, ⊤}
 use Rattle.branch.specs.declared.queue.Ring.{Ring}
@@ -23,10 +22,10 @@ use Rattle.branch.specs.declared.units.Units.{Units}
 use Rattle.branch.specs.Queue.{Lies, SameOutside, floats_at, entries, PushedTo}
 use Rattle.branch.specs.CumulativeIn.{Inflow, run_refused}
 use Rattle.branch.specs.InflowInWork.{run_of, inflow_of, RunPushedTo}
-use Rattle.branch.specs.Units.{OpenAu, none, unit, Waiting, Queued, close_by as close_units_by, close_units, open_units}
+use Rattle.branch.specs.Units.{OpenAu, Queued, close_units, open_units}
 use Rattle.branch.specs.UnitsInWork.{unit_of, unit_at, waiting_of, grown_units, UnitsTo}
 use Rattle.branch.specs.VideoBranch.{pushed_leak, push_video}
-use Rattle.branch.specs.VideoStep.{VideoChain, VideoFed, refused, fed, and_then, with_pending, close_by, close_au, open_unit, add_run}
+use Rattle.branch.specs.VideoStep.{VideoChain, VideoFed, refused, fed, and_then, waiting, with_waiting, queued_to, close_au, open_unit, add_run}
 use Rattle.branch.specs.VideoInWork.{mark_of, mark_at, flow_of, leak_of, LeakLies, video_of, VideoLies, chain_of, Apart, VideoFedTo, queued_run, QueuedTo, marked_leak, marked_run, MarkedTo}
 use Rattle.branch.proofs.Rings.{kept, count_entries, floats_local, lies_kept, outside_refl, outside_then, outside_wider, push_adds, push_lies, push_outside, push_refused}
 use Rattle.branch.proofs.HeaderMarks.{mark_local}
@@ -54,43 +53,7 @@ module _ (w : List Float) (m : VideoLayout) (b : VideoBranch) (x : VideoFed) (l 
   pub fed_refused : (f : QueueFull) → x ≡ refused (chain_of w m b) → VideoFedTo w m b x (Err f) b w
   fed_refused f e = rw e (record { lies = l; outside = outside_refl _ _ w; full = refl; state = refl; units = refl })
 
--- ---- the units of a chain
-
-abbrev waiting : VideoChain → Waiting
-waiting c = record { pending = c.branch.pending; open_au = c.open_au; units = c.branch.units; max_delay = c.branch.max_delay }
-
-abbrev with_waiting : VideoChain → Waiting → VideoChain
-with_waiting c x =
-    record {
-      branch = record { leak = c.branch.leak; queued = c.branch.queued; eb_required = c.branch.eb_required; pending = x.pending; max_delay = x.max_delay; units = x.units };
-      open_au = x.open_au;
-    }
-
-abbrev queued_to : VideoChain → Queued → VideoFed
-queued_to c q = record { full = q.full; chain = with_waiting c q.units }
-
-module _ (d : ℕ) (c : VideoChain) where
-  close_by_is : (o : OpenAu) (z : Bool) → eqb (length c.branch.pending) d ≡ z → close_by d c o ≡ queued_to c (close_units_by d (waiting c) o)
-  unfolding close_by close_units_by with_pending
-  close_by_is none z e = refl
-  close_by_is (unit u) true e = simp e
-  close_by_is (unit u) false e = simp e
-
-  close_is : close_au d c ≡ queued_to c (close_units d (waiting c))
-  unfolding close_au close_units
-  close_is = close_by_is c.open_au _ refl
-
-  opened_by : (u : AccessUnit) (f : VideoFed) (q : Queued) (z : Bool) → q.full ≡ z → f ≡ queued_to c q
-      → and_then f (λ n. fed (record { branch = n.branch; open_au = unit u }))
-      ≡ queued_to c (cond q.full q (record { full = false; units = record { pending = q.units.pending; open_au = unit u; units = q.units.units; max_delay = q.units.max_delay } }))
-  unfolding and_then
-  opened_by u f q true e g = rw g (simp e)
-  opened_by u f q false e g = rw g (simp e)
-
-  open_is : (o : OpenAu) → open_unit d o c ≡ queued_to c (open_units d o (waiting c))
-  unfolding open_unit open_units
-  open_is none = refl
-  open_is (unit u) = opened_by u (close_au d c) (close_units d (waiting c)) _ refl close_is
+-- ---- the units of a branch
 
 abbrev pub with_units : VideoBranch → Units → VideoBranch
 with_units b u = record { leak = b.leak; units = u; queued = b.queued; eb_required = b.eb_required }
@@ -104,31 +67,30 @@ module _ (w v : List Float) (m : VideoLayout) (b : VideoBranch) (l : VideoLies w
   unfolding chain_of video_of waiting_of
   units_state = rw (leak_kept w v m b.leak l.leak h.outside (inl a.units) (inr a.marks)) (ap (with_waiting C) h.state)
 
-  units_fed : (f : VideoFed) → f ≡ queued_to C x → VideoFedTo w m b f r (with_units b u) v
-  units_fed f e =
+  units_fed : VideoFedTo w m b (queued_to C x) r (with_units b u) v
+  units_fed =
       let i = a.units in
       let j = a.marks in
       let o = h.outside in
-      rw e
-      (record {
+      record {
         lies = record { leak = record { runs = lies_kept o l.leak.runs; marks = lies_kept o l.leak.marks }; pending = h.lies };
         outside = outside_wider (omega arith) (omega arith) o;
         full = h.full;
         state = units_state;
         units = h.count;
-      })
+      }
 
 -- the branch's units are those of its chain, and its rings have places for the same count of entries
 module _ (w v : List Float) (m : VideoLayout) (b : VideoBranch) (l : VideoLies w m b) (a : Apart m) (r : Result ⊤ QueueFull) (u : Units) where
   pub units_closed : UnitsTo w m.units b.units (close_units m.units.depth (waiting_of w m.units b.units)) r u v
       → VideoFedTo w m b (close_au m.runs.depth (chain_of w m b)) r (with_units b u) v
-  unfolding chain_of video_of waiting_of
-  units_closed h = units_fed w v m b l a _ r u h _ (close_is m.runs.depth (chain_of w m b) ∙ ap (λ (z : ℕ). queued_to (chain_of w m b) (close_units z (waiting (chain_of w m b)))) (sym a.units_depth))
+  unfolding close_au chain_of video_of waiting_of
+  units_closed h = subst (λ (z : ℕ). VideoFedTo w m b (queued_to (chain_of w m b) (close_units z (waiting (chain_of w m b)))) r (with_units b u) v) a.units_depth (units_fed w v m b l a _ r u h)
 
   pub units_opened : (o : OpenAu) → UnitsTo w m.units b.units (open_units m.units.depth o (waiting_of w m.units b.units)) r u v
       → VideoFedTo w m b (open_unit m.runs.depth o (chain_of w m b)) r (with_units b u) v
-  unfolding chain_of video_of waiting_of
-  units_opened o h = units_fed w v m b l a _ r u h _ (open_is m.runs.depth (chain_of w m b) o ∙ ap (λ (z : ℕ). queued_to (chain_of w m b) (open_units z o (waiting (chain_of w m b)))) (sym a.units_depth))
+  unfolding open_unit chain_of video_of waiting_of
+  units_opened o h = subst (λ (z : ℕ). VideoFedTo w m b (queued_to (chain_of w m b) (open_units z o (waiting (chain_of w m b)))) r (with_units b u) v) a.units_depth (units_fed w v m b l a _ r u h)
 
 -- ---- one after the other
 

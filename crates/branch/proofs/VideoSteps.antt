@@ -1,11 +1,10 @@
 -- One step of a video chain, from what its parts give, and the branch before the first packet.
 use Prim.Native.Nat.{ℕ, ◌+◌, ◌*◌, ◌≤◌, ◌<◌}
 use mathlib.Core.Path.{◌≡◌, refl, sym, ap, ◌∙◌}
-use mathlib.Core.Bool.{Bool, true, false, true≢false}
+use mathlib.Core.Bool.{true, false}
 use mathlib.Core.List.{List, []}
 use native.Mathlib.Omega.{arith}
 use lib.ListN.{length}
-use lib.Dec.{eqb}
 use borrow.Author.Tests.{ltb-true, leb-true, lt-ltb, le-leb}
 use lib.Ieee.{Float, lt, ne, eq}
 use Rattle.ieee.specs.Binary64.{◌⊕◌, ◌⊘◌, 0f, 1f, 2f, 1e-6f}
@@ -21,10 +20,11 @@ use Rattle.branch.specs.declared.video_branch.VideoBranch.{VideoBranch}
 use Rattle.branch.specs.declared.QueueFull.{QueueFull}
 use Rattle.branch.specs.Queue.{entries, entries_from}
 use Rattle.std.specs.Prelude.{Result, Ok, is_err, ⊤}
-use Rattle.branch.specs.Units.{OpenAu, none, unit, open_of}
+use Rattle.branch.specs.Units.{open_of}
 use Rattle.branch.specs.VideoBranch.{VideoRates, Video, advance, drain_time, finish_video}
-use Rattle.branch.specs.VideoStep.{VideoChain, new_video, with_pending, close_by, close_au, deliver, packet_step, end_step, video_step}
+use Rattle.branch.specs.VideoStep.{VideoChain, new_video, waiting, queued_to, close_au, deliver, packet_step, end_step, video_step}
 use Rattle.branch.specs.VideoInWork.{rates_of, leak_of, flow_of, video_of, VideoLies, chain_of, Apart, VideoFedTo, AdvancedTo, layout_of, ready, SteppedTo, new_branch}
+use Rattle.branch.proofs.UnitCounts.{close_twice}
 use Rattle.branch.proofs.Rings.{both, ring_fits, lying_fits}
 
 -- ---- the branch before the first packet
@@ -119,16 +119,9 @@ module _ (w u : List Float) (m : VideoLayout) (b a : VideoBranch) (d : Delivered
 -- ---- a caller that closes first, and then steps to the end
 
 module _ (depth : ℕ) (c : VideoChain) where
-  -- behind a close nothing is open
-  twice_by : (o : OpenAu) (z : Bool) → c.open_au ≡ o → eqb (length c.branch.pending) depth ≡ z → (close_by depth c o).full ≡ false → close_au depth (close_by depth c o).chain ≡ close_by depth c o
-  unfolding close_au close_by with_pending
-  twice_by none z o e f = simp o
-  twice_by (unit u) true o e f = absurd (true≢false (sym (simp e) ∙ f))
-  twice_by (unit u) false o e f = simp e
-
-  close_twice : (close_au depth c).full ≡ false → close_au depth (close_au depth c).chain ≡ close_au depth c
+  close_again : (close_au depth c).full ≡ false → close_au depth (close_au depth c).chain ≡ close_au depth c
   unfolding close_au
-  close_twice f = twice_by c.open_au (eqb (length c.branch.pending) depth) refl refl f
+  close_again f = ap (queued_to c) (close_twice depth (waiting c) f)
 
 module _ (r : VideoRates) (depth : ℕ) (d : Delivered) (t : Float) (c : VideoChain) where
   pub closed_full : (close_au depth c).full ≡ true → video_step r depth d true t c ≡ record { full = true; chain = (close_au depth c).chain; events = [] }
@@ -137,7 +130,7 @@ module _ (r : VideoRates) (depth : ℕ) (d : Delivered) (t : Float) (c : VideoCh
 
   pub closed_again : (close_au depth c).full ≡ false → video_step r depth d true t (close_au depth c).chain ≡ video_step r depth d true t c
   unfolding video_step
-  closed_again f = ap (end_step r) (close_twice depth c f)
+  closed_again f = ap (end_step r) (close_again depth c f)
 
 -- ---- the test of a step
 

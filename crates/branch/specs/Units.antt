@@ -36,24 +36,30 @@ pub record Queued : Type 0 where
   pub full : Bool
   pub units : Waiting
 
+abbrev pub refused : Waiting → Queued
+refused x = record { full = true; units = x }
+
+abbrev pub placed : Waiting → Queued
+placed x = record { full = false; units = x }
+
 abbrev pub with_open : Waiting → List AccessUnit → OpenAu → Waiting
 with_open x pending open_au = record { pending = pending; open_au = open_au; units = x.units; max_delay = x.max_delay }
 
 -- the open unit becomes a pending one
 unfoldable pub close_by : ℕ → Waiting → OpenAu → Queued
-close_by depth x none = record { full = false; units = x }
-close_by depth x (unit u) =
-    cond (eqb (length x.pending) depth) (record { full = true; units = x }) (record { full = false; units = with_open x (x.pending ++ (u ∷ [])) none })
+close_by depth x none = placed x
+close_by depth x (unit u) = cond (eqb (length x.pending) depth) (refused x) (placed (with_open x (x.pending ++ (u ∷ [])) none))
 
 unfoldable pub close_units : ℕ → Waiting → Queued
 close_units depth x = close_by depth x x.open_au
 
 -- a stamp closes the open unit, and opens the next
+abbrev pub opened : AccessUnit → Queued → Queued
+opened u q = cond q.full q (placed (with_open q.units q.units.pending (unit u)))
+
 unfoldable pub open_units : ℕ → OpenAu → Waiting → Queued
-open_units depth none x = record { full = false; units = x }
-open_units depth (unit u) x =
-    cond (close_units depth x).full (close_units depth x)
-    (record { full = false; units = with_open (close_units depth x).units (close_units depth x).units.pending (unit u) })
+open_units depth none x = placed x
+open_units depth (unit u) x = opened u (close_units depth x)
 
 -- the first unit, where it is due
 unfoldable pub due_now : List AccessUnit → Float → Option AccessUnit

@@ -1,13 +1,12 @@
 -- One step of a video chain: a packet that arrives, or the end. The queues are lists here; depth is how many entries each may have.
-use Rattle.std.specs.Prelude.{ℕ, Bool, true, false, cond, ◌&&◌, ◌||◌, List, [], ◌∷◌, ◌++◌, length, eqb, Float}
+use Rattle.std.specs.Prelude.{ℕ, Bool, true, false, cond, ◌&&◌, ◌||◌, List, [], length, eqb, Float}
 use Rattle.std.specs.Float.Ieee.{le}
 use Rattle.ieee.specs.Binary64.{0f, -∞}
 use Rattle.events.specs.Event.{Event}
 use Rattle.branch.specs.declared.Run.{Run}
-use Rattle.branch.specs.declared.AccessUnit.{AccessUnit}
 use Rattle.branch.specs.declared.Delivered.{Delivered}
 use Rattle.branch.specs.CumulativeIn.{run_refused}
-use Rattle.branch.specs.MainBranch.{OpenAu, none, unit, grown, stamp_of}
+use Rattle.branch.specs.Units.{OpenAu, none, grown, stamp_of, Waiting, Queued, close_units, open_units}
 use Rattle.branch.specs.VideoBranch.{VideoRates, Video, Advanced, advance, finish_video, push_video}
 
 -- the branch, and the unit whose bytes still arrive
@@ -53,24 +52,27 @@ fed c = record { full = false; chain = c }
 unfoldable pub and_then : VideoFed → (VideoChain → VideoFed) → VideoFed
 and_then f g = cond f.full f (g f.chain)
 
-unfoldable pub with_pending : Video → List AccessUnit → Video
-with_pending v pending =
-    record { leak = v.leak; queued = v.queued; eb_required = v.eb_required; pending = pending; max_delay = v.max_delay; units = v.units }
+-- the units of a chain
+abbrev pub waiting : VideoChain → Waiting
+waiting c = record { pending = c.branch.pending; open_au = c.open_au; units = c.branch.units; max_delay = c.branch.max_delay }
 
--- close_au: the open unit becomes a pending one
-unfoldable pub close_by : ℕ → VideoChain → OpenAu → VideoFed
-close_by depth c none = fed c
-close_by depth c (unit u) =
-    cond (eqb (length c.branch.pending) depth) (refused c)
-    (fed (record { branch = with_pending c.branch (c.branch.pending ++ (u ∷ [])); open_au = none }))
+abbrev pub with_waiting : VideoChain → Waiting → VideoChain
+with_waiting c x =
+    record {
+      branch = record { leak = c.branch.leak; queued = c.branch.queued; eb_required = c.branch.eb_required; pending = x.pending; max_delay = x.max_delay; units = x.units };
+      open_au = x.open_au;
+    }
 
+abbrev pub queued_to : VideoChain → Queued → VideoFed
+queued_to c q = record { full = q.full; chain = with_waiting c q.units }
+
+-- the open unit becomes a pending one
 unfoldable pub close_au : ℕ → VideoChain → VideoFed
-close_au depth c = close_by depth c c.open_au
+close_au depth c = queued_to c (close_units depth (waiting c))
 
 -- a stamp closes the open unit, and opens the next
 unfoldable pub open_unit : ℕ → OpenAu → VideoChain → VideoFed
-open_unit depth none c = fed c
-open_unit depth (unit u) c = and_then (close_au depth c) (λ n. fed (record { branch = n.branch; open_au = unit u }))
+open_unit depth o c = queued_to c (open_units depth o (waiting c))
 
 -- a run, where there are bytes: content is the open unit's too, header bytes add nothing to it
 unfoldable pub add_run : ℕ → Bool → Run → VideoChain → VideoFed

@@ -15,9 +15,9 @@ use Rattle.branch.specs.declared.AccessUnit.{AccessUnit}
 use Rattle.branch.specs.declared.Delivered.{Delivered}
 use Rattle.std.specs.Prelude.{Option, Some, None}
 use Rattle.branch.specs.CumulativeIn.{run_refused, settle, time_of_cumulative}
-use Rattle.branch.specs.MainBranch.{OpenAu, none, unit, stamp_of}
+use Rattle.branch.specs.MainBranch.{OpenAu, stamp_of}
 use Rattle.branch.specs.VideoBranch.{VideoRates, Leak, longest_seen, looked, stalled, gone, Turned, on, break, arriving, pace_take, filled, paced, backlogged, step, mb_fullness, eb_room, turn, turns, budget, closed, started, ran, leak_until, transfer, Video, with_removed, remove_unit, advance_from, advance, drain_time, finish_video, pushed_leak, push_video}
-use Rattle.branch.specs.VideoStep.{VideoChain, new_video, VideoFed, fed, refused, and_then, with_pending, close_by, close_au, open_unit, add_run, deliver, packet_step, end_step, video_step}
+use Rattle.branch.specs.VideoStep.{VideoChain, new_video, VideoFed, fed, refused, and_then, close_au, open_unit, add_run, deliver, packet_step, end_step, video_step}
 use Rattle.branch.proofs.VideoAdvance.{leaked}
 use Rattle.legal.specs.Legal.{BusyFits}
 use Rattle.legal.proofs.Cases.{either}
@@ -112,14 +112,10 @@ pub new_fits : BusyFits new_video.branch.leak
 unfolding new_video of_bits fits
 new_fits = tt
 
-close_of : (depth : ℕ) (c : VideoChain) (o : OpenAu) → BusyFits c.branch.leak → BusyFits (close_by depth c o).chain.branch.leak
-unfolding close_by with_pending
-close_of depth c none h = h
-close_of depth c (unit u) h = either FedFits (eqb (length c.branch.pending) depth) _ _ h h
-
+-- a close and a stamp change the units alone
 pub close_fits : (depth : ℕ) (c : VideoChain) → BusyFits c.branch.leak → BusyFits (close_au depth c).chain.branch.leak
 unfolding close_au
-close_fits depth c h = close_of depth c c.open_au h
+close_fits depth c h = h
 
 then_fits : (x : VideoFed) (g : VideoChain → VideoFed) → BusyFits x.chain.branch.leak → ((c : VideoChain) → BusyFits c.branch.leak → BusyFits (g c).chain.branch.leak)
     → BusyFits (and_then x g).chain.branch.leak
@@ -128,8 +124,7 @@ then_fits x g h k = either FedFits x.full x (g x.chain) h (k x.chain h)
 
 open_fits : (depth : ℕ) (o : OpenAu) (c : VideoChain) → BusyFits c.branch.leak → BusyFits (open_unit depth o c).chain.branch.leak
 unfolding open_unit
-open_fits depth none c h = h
-open_fits depth (unit u) c h = then_fits (close_au depth c) (λ n. fed (record { branch = n.branch; open_au = unit u })) (close_fits depth c h) (λ n k. k)
+open_fits depth o c h = h
 
 push_fits : (v : Video) (r : Run) (header : Bool) → BusyFits v.leak → BusyFits (push_video v r header).leak
 unfolding push_video pushed_leak

@@ -15,9 +15,9 @@ use Rattle.branch.specs.declared.AccessUnit.{AccessUnit}
 use Rattle.branch.specs.declared.Delivered.{Delivered}
 use Rattle.branch.specs.declared.Run.{Run}
 use Rattle.branch.specs.CumulativeIn.{run_refused}
-use Rattle.branch.specs.MainBranch.{OpenAu, none, unit, grown, stamp_of}
+use Rattle.branch.specs.Units.{OpenAu, none, unit, grown, stamp_of, refused as refused_units, placed, with_open, close_by, close_units, opened, open_units}
 use Rattle.branch.specs.VideoBranch.{Video, VideoRates, advance, finish_video, push_video, pushed_leak}
-use Rattle.branch.specs.VideoStep.{VideoChain, VideoFed, VideoStep, fed, refused, and_then, with_pending, close_by, close_au, open_unit, add_run, deliver, packet_step, end_step, video_step}
+use Rattle.branch.specs.VideoStep.{VideoChain, VideoFed, VideoStep, fed, refused, and_then, waiting, with_waiting, close_au, open_unit, add_run, deliver, packet_step, end_step, video_step}
 use Rattle.bounds.specs.Events.{EventsIn, FewEvents, UpTo, latest_time, no_events}
 use Rattle.bounds.specs.Figures.{VideoFigures}
 use Rattle.bounds.specs.Runs.{RunIs, byte_limit}
@@ -67,24 +67,26 @@ made : {n q p b u k a N : ℕ} (c : VideoChain) → n ≤ N → b ≤ a → Vide
 made {n} {q} {p} {b} c h g m e i =
     record { holds = record { bytes = n; closed_bytes = q; closed_units = p; advances = b; few = h; few_advances = g; bounded = m; open_unit = i }; same = e }
 
-pended : {n q p a : ℕ} (v : Video) → VideoBounded n q p a v → (w : AccessUnit) (j : ℕ) → UnitIs w j → q + j ≤ n → VideoBounded n (q + j) (p + 1) a (with_pending v (v.pending ++ (w ∷ [])))
-unfolding with_pending
-pended v m w j i few = pend_video v w m i (le_trans few m.few)
+-- the chain with the open unit o, and w among the pending ones
+abbrev pended : VideoChain → AccessUnit → OpenAu → VideoChain
+pended c w o = with_waiting c (with_open (waiting c) (c.branch.pending ++ (w ∷ [])) o)
+
+pended_lem : {n q p a : ℕ} (c : VideoChain) → VideoBounded n q p a c.branch → (w : AccessUnit) (j : ℕ) → UnitIs w j → q + j ≤ n → (o : OpenAu) → VideoBounded n (q + j) (p + 1) a (pended c w o).branch
+pended_lem c m w j i few o = pend_video c.branch w m i (le_trans few m.few)
 
 module _ {n q p b k a N : ℕ} (depth : ℕ) (c : VideoChain) (h : n ≤ N) (g : b ≤ a) (m : VideoBounded n q p b c.branch) where
-  closed_by_lem : (o : OpenAu) → c.open_au ≡ o → OpenIn n k q p o → VideoKept c.branch.units N k a (close_by depth c o).chain
-  unfolding close_by with_pending
+  closed_by_lem : (o : OpenAu) → c.open_au ≡ o → OpenIn n k q p o → VideoKept c.branch.units N k a (with_waiting c (close_by depth (waiting c) o).units)
+  unfolding close_by
   closed_by_lem none e i = made c h g m refl (subst (OpenIn n k q p) (sym e) i)
   closed_by_lem (unit w) e (one_open j i few less) = go (eqb (length c.branch.pending) depth)
     where
-      go : (t : Bool) → VideoKept c.branch.units N k a
-          (cond t (refused c) (fed (record { branch = with_pending c.branch (c.branch.pending ++ (w ∷ [])); open_au = none }))).chain
+      go : (t : Bool) → VideoKept c.branch.units N k a (with_waiting c (cond t (refused_units (waiting c)) (placed (waiting (pended c w none)))).units)
       go true = made c h g m refl (subst (OpenIn n k q p) (sym e) (one_open j i few less))
-      go false = made (record { branch = with_pending c.branch (c.branch.pending ++ (w ∷ [])); open_au = none }) h g (pended c.branch m w j i few) refl (none_open few less)
+      go false = made (pended c w none) h g (pended_lem c m w j i few none) refl (none_open few less)
 
   opened_by : (u : AccessUnit) → UnitIs u 0 → (o : OpenAu) → c.open_au ≡ o → OpenIn n k q p o
-      → VideoKept c.branch.units N (suc k) a (and_then (close_by depth c o) (λ (x : VideoChain). fed (record { branch = x.branch; open_au = unit u }))).chain
-  unfolding close_by with_pending and_then
+      → VideoKept c.branch.units N (suc k) a (with_waiting c (opened u (close_by depth (waiting c) o)).units)
+  unfolding close_by
   opened_by u z none e (none_open f less) = made (record { branch = c.branch; open_au = unit u }) h g m refl (one_open 0 z (zero q n f) (one p k less))
     where
       zero : (q n : ℕ) → q ≤ n → q + 0 ≤ n
@@ -103,24 +105,22 @@ module _ {n q p b k a N : ℕ} (depth : ℕ) (c : VideoChain) (h : n ≤ N) (g :
       more : (k : ℕ) → k ≤ suc k
       more k = omega arith
 
-      go : (t : Bool) → VideoKept c.branch.units N (suc k) a
-          (and_then (cond t (refused c) (fed (record { branch = with_pending c.branch (c.branch.pending ++ (w ∷ [])); open_au = none })))
-          (λ (x : VideoChain). fed (record { branch = x.branch; open_au = unit u }))).chain
+      go : (t : Bool) → VideoKept c.branch.units N (suc k) a (with_waiting c (opened u (cond t (refused_units (waiting c)) (placed (waiting (pended c w none))))).units)
       go true = made c h g m refl (open_more n (suc k) (le_refl n) (more k) (subst (OpenIn n k q p) (sym e) (one_open j i few less)))
       go false =
-          made (record { branch = with_pending c.branch (c.branch.pending ++ (w ∷ [])); open_au = unit u }) h g (pended c.branch m w j i few) refl
+          made (pended c w (unit u)) h g (pended_lem c m w j i few (unit u)) refl
           (one_open 0 z (zero q j n few) (one p k less))
 
 same_units : {u v N k a : ℕ} {c : VideoChain} → v ≡ u → VideoKept v N k a c → VideoKept u N k a c
 same_units e m = record { holds = m.holds; same = m.same ∙ e }
 
 pub video_closed : {u N k a : ℕ} (depth : ℕ) (c : VideoChain) → VideoKept u N k a c → VideoKept u N k a (close_au depth c).chain
-unfolding close_au
+unfolding close_au close_units
 video_closed depth c m =
     same_units m.same (closed_by_lem depth c m.holds.few m.holds.few_advances m.holds.bounded c.open_au refl m.holds.open_unit)
 
 video_opened : {u N k a : ℕ} (depth : ℕ) (o : OpenAu) (c : VideoChain) → StampIn o → VideoKept u N k a c → VideoKept u N (suc k) a (open_unit depth o c).chain
-unfolding open_unit close_au
+unfolding open_unit open_units close_units
 video_opened {u} {N} {k} depth none c no_stamp m = kept_more N (suc k) (le_refl N) (more k) m
   where
     more : (k : ℕ) → k ≤ suc k

@@ -1,0 +1,42 @@
+-- The units of a branch as lists: a close or a stamp adds one at most, and a close behind a close changes nothing.
+use Prim.Native.Nat.{ℕ, ◌+◌, ◌≤◌}
+use mathlib.Core.Path.{◌≡◌, refl, sym, ◌∙◌}
+use mathlib.Core.Bool.{Bool, true, false, true≢false}
+use native.Mathlib.Omega.{arith}
+use lib.ListN.{length, length-append}
+use lib.Dec.{eqb}
+use Rattle.branch.specs.declared.AccessUnit.{AccessUnit}
+use Rattle.branch.specs.Units.{OpenAu, none, unit, Waiting, Queued, close_by, close_units, opened, open_units}
+
+abbrev pub units_in : Waiting → ℕ
+units_in x = x.units + length x.pending
+
+close_by_lem : (depth : ℕ) (x : Waiting) (o : OpenAu) (b : Bool) → eqb (length x.pending) depth ≡ b → units_in (close_by depth x o).units ≤ units_in x + 1
+unfolding close_by
+close_by_lem depth x none b e = omega arith
+close_by_lem depth x (unit u) true e = simp e (omega arith)
+close_by_lem depth x (unit u) false e = simp (e, length-append) (omega arith)
+
+pub close_counts : (depth : ℕ) (x : Waiting) → units_in (close_units depth x).units ≤ units_in x + 1
+unfolding close_units
+close_counts depth x = close_by_lem depth x x.open_au _ refl
+
+opened_lem : (u : AccessUnit) (q : Queued) (b : Bool) → q.full ≡ b → units_in (opened u q).units ≡ units_in q.units
+opened_lem u q true e = simp e
+opened_lem u q false e = simp e
+
+pub open_counts : (depth : ℕ) (o : OpenAu) (x : Waiting) → units_in (open_units depth o x).units ≤ units_in x + 1
+unfolding open_units
+open_counts depth none x = omega arith
+open_counts depth (unit u) x = rw (opened_lem u (close_units depth x) _ refl) (close_counts depth x)
+
+-- behind a close nothing is open
+twice_by : (depth : ℕ) (x : Waiting) (o : OpenAu) (b : Bool) → x.open_au ≡ o → eqb (length x.pending) depth ≡ b → (close_by depth x o).full ≡ false → close_units depth (close_by depth x o).units ≡ close_by depth x o
+unfolding close_units close_by
+twice_by depth x none b o e f = simp o
+twice_by depth x (unit u) true o e f = absurd (true≢false (sym (simp e) ∙ f))
+twice_by depth x (unit u) false o e f = simp e
+
+pub close_twice : (depth : ℕ) (x : Waiting) → (close_units depth x).full ≡ false → close_units depth (close_units depth x).units ≡ close_units depth x
+unfolding close_units
+close_twice depth x f = twice_by depth x x.open_au _ refl refl f
