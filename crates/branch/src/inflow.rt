@@ -55,6 +55,7 @@ impl CumulativeIn {
     }
 
     // The runs that have ended by t go from the ring to the sum.
+    #[tactic(auto, using(crate::proofs::Inflows::settle_stops, crate::proofs::Inflows::settle_ends, crate::proofs::Rings::count_popped))]
     fn settle(self, w: Place, work: &[f64], t: f64) -> CumulativeIn
         requires { Lies 3 work.now w self.runs }
         ensures { SettledTo work.now w self t result }
@@ -92,6 +93,7 @@ impl CumulativeIn {
         sum
     }
 
+    #[tactic(auto, using(crate::proofs::Inflows::total_settled))]
     pub(crate) fn arrived_by(self, w: Place, work: &[f64], t: f64) -> Arrived
         requires { Lies 3 work.now w self.runs }
         ensures { ArrivedTo work.now w self t result }
@@ -114,6 +116,7 @@ impl CumulativeIn {
     }
 
     // When the byte `target` of the sum came, as far as the ring knows; none where it has not come.
+    #[tactic(auto, using(crate::proofs::Inflows::time_more, crate::proofs::Inflows::time_stops, crate::proofs::Inflows::time_ends, crate::proofs::Inflows::time_first, crate::proofs::Inflows::time_unsettled))]
     pub(crate) fn time_of_cumulative(self, w: Place, work: &[f64], target: f64) -> Option<f64>
         requires { Lies 3 work.now w self.runs }
         ensures { result ≡ time_of_cumulative (inflow_of work.now w self) target }

@@ -45,6 +45,7 @@ fn entry_of(u: AccessUnit) -> [f64; 3]
 }
 
 // What a removal tells of its unit: underflow and delay.
+#[tactic(auto, using(crate::proofs::UnitQueues::noted_removal))]
 pub(crate) fn note_removal(arrived: f64, required: f64, u: AccessUnit, slots: &mut Slots, k: usize)
     requires { k ≤ 64 }
     ensures { slots.new ≡ noted_all k (unit_events arrived required u) slots.old }
@@ -75,6 +76,7 @@ impl Units {
     }
 
     // The open unit becomes a pending one. Nothing changes where none is open, nor where the ring is full.
+    #[tactic(auto, using(crate::proofs::UnitQueues::units_same, crate::proofs::UnitQueues::close_none, crate::proofs::UnitQueues::close_full))]
     pub(crate) fn close(&mut self, w: Place, work: &mut [f64]) -> Result<(), QueueFull>
         requires { Lies 3 work.old w self.old.pending }
         ensures { UnitsTo work.old w self.old (close_units w.depth (waiting_of work.old w self.old)) result self.new work.new }
@@ -88,6 +90,7 @@ impl Units {
     }
 
     // A stamp closes the open unit, and opens the next.
+    #[tactic(auto, using(crate::proofs::UnitQueues::units_same, crate::proofs::UnitQueues::stamp_none, crate::proofs::UnitQueues::open_next))]
     pub(crate) fn open(&mut self, w: Place, work: &mut [f64], d: Delivered) -> Result<(), QueueFull>
         requires { Lies 3 work.old w self.old.pending }
         ensures { UnitsTo work.old w self.old (open_units w.depth (stamp_of d) (waiting_of work.old w self.old)) result self.new work.new }
@@ -112,6 +115,7 @@ impl Units {
     }
 
     // The first pending unit.
+    #[tactic(auto, using(crate::proofs::UnitQueues::first_none, crate::proofs::UnitQueues::first_some))]
     pub(crate) fn first(self, w: Place, work: &[f64]) -> Option<AccessUnit>
         requires { Lies 3 work.now w self.pending }
         ensures { FirstOf work.now w self.pending result }
@@ -128,6 +132,7 @@ impl Units {
     }
 
     // The same, where it is due.
+    #[tactic(auto, using(crate::proofs::UnitQueues::due_none, crate::proofs::UnitQueues::due_first, crate::proofs::UnitQueues::due_later))]
     pub(crate) fn due(self, w: Place, work: &[f64], frontier: f64) -> Option<AccessUnit>
         requires { Lies 3 work.now w self.pending }
         ensures { DueOf work.now w self.pending frontier result }
