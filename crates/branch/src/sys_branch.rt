@@ -64,6 +64,7 @@ impl SysBranch {
 
     // A run goes into Bsys, at the rate around its time; an overflow goes to slot k.
     // Ruled out: an overflow at 1536 bytes without the byte of tolerance; the gap before the first run drained.
+    #[tactic(auto, unfolding(crate::specs::SysBranch::push_sys), using(crate::proofs::SysEvents::sys_noted))]
     pub fn push(self, run: Run, rate: f64, slots: &mut Slots, k: usize) -> SysBranch
         ensures { (result ≡ push_sys self run rate) × (slots.new ≡ noted_all k (sys_events self run rate) slots.old) }
     {
