@@ -21,14 +21,10 @@ use Rattle.profile.specs.Work.{check_of}
 use Rattle.std.proofs.lemmas.Bool.{and_parts}
 use Rattle.profile.proofs.Within.{limits_within}
 use Rattle.profile.proofs.Sizes.{check_outside}
-use Rattle.words.specs.Config.{profile_len, slot_word, system_word, pid_fits, slot_fits, slots_fit, system_fits, profile_fits, branch_of, stream_at, slot_streams, slot_pids, config_at, config_of, Fits}
+use Rattle.words.specs.Config.{profile_len, slot_word, system_word, pid_fits, slot_fits, slots_fit, system_fits, profile_fits, branch_of, stream_at, slot_streams, slot_pids, config_at, config_of}
 use Rattle.words.specs.Counted.{SlotAlike, Alike}
 use Rattle.words.proofs.UpTo.{map_alike}
-use Rattle.words.proofs.Profile.{fits}
-
-never_true : (b : Bool) → (b ≡ true → ⊥) → b ≡ false
-never_true true h = absurd (h refl)
-never_true false h = refl
+use Rattle.words.proofs.Profile.{Fits, never_true, fits}
 
 -- ---- a count above its limit
 module _ (ws : List ℕ) where

@@ -25,6 +25,14 @@ module _ (test : ℕ → Bool) where
   pub passes_at : (n : ℕ) → list_all test (range_with_len 0 n) ≡ true → (i : ℕ) → i < n → test i ≡ true
   passes_at n e i h = by_test n i h e (test i) refl
 
+  -- one below n does not
+  pub fails_at : (n i : ℕ) → i < n → test i ≡ false → list_all test (range_with_len 0 n) ≡ false
+  fails_at n i h t = by_all (list_all test (range_with_len 0 n)) refl
+    where
+      by_all : (b : Bool) → list_all test (range_with_len 0 n) ≡ b → list_all test (range_with_len 0 n) ≡ false
+      by_all true e = let p = passes_at n e i h in cc
+      by_all false e = e
+
   passes_from : (a n : ℕ) → ((i : ℕ) → i < a + n → test i ≡ true) → list_all test (range_with_len a n) ≡ true
   passes_from a zero h = refl
   passes_from a (suc n) h =

@@ -1,6 +1,6 @@
 -- The configuration of a profile's words: PCR PID, stream count, system count, queue depth, clock depth, then 8 slots of six
 -- words for the streams, then 16 system PIDs. What stands in slots past the counts does not enter.
-use Rattle.std.specs.Prelude.{ℕ, ◌+◌, ◌*◌, ◌-◌, ◌<◌, ◌≤◌, ◌≡◌, Bool, true, cond, ◌&&◌, List, ◌++◌, map, length, get_or, replicate, eqb, leb, Result, Ok, Err}
+use Rattle.std.specs.Prelude.{ℕ, ◌+◌, ◌*◌, ◌-◌, ◌≡◌, Bool, true, false, cond, ◌&&◌, List, ◌++◌, map, length, get_or, replicate, eqb, leb, Option, MatchOption, Result, Ok, Err}
 use Rattle.std.specs.List.{list_all, range_with_len}
 use Rattle.error.specs.declared.Refusal.{Refusal}
 use Rattle.profile.specs.declared.model.TStdBranch.{TStdBranch}
@@ -19,6 +19,10 @@ slot_word ws i k = get_or ws (5 + 6 * i + k) 0
 
 abbrev pub system_word : List ℕ → ℕ → ℕ
 system_word ws i = get_or ws (53 + i) 0
+
+-- what is read: the value where its words fit, else none
+abbrev pub SomeIf : {A : Type 0} → Bool → A → Option A → Type 0
+SomeIf fits a r = MatchOption r (fits ≡ false) (λ b. (fits ≡ true) × (b ≡ a))
 
 -- the field of a PID has 16 bits
 abbrev pub pid_fits : ℕ → Bool
@@ -42,14 +46,6 @@ profile_fits ws =
     && pid_fits (get_or ws 0 0)
     && slots_fit ws (get_or ws 1 0)
     && system_fits ws (get_or ws 2 0)
-
--- what a profile that fits has
-pub record Fits (ws : List ℕ) : Type 0 where
-  pub streams : get_or ws 1 0 ≤ max_streams
-  pub system : get_or ws 2 0 ≤ max_system_pids
-  pub pcr : get_or ws 0 0 < 65536
-  pub slots : slots_fit ws (get_or ws 1 0) ≡ true
-  pub pids : system_fits ws (get_or ws 2 0) ≡ true
 
 -- a main stream has its buffer size, and two words that do not enter
 unfoldable pub branch_of : (kind a b c : ℕ) → TStdBranch

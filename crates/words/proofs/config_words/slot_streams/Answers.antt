@@ -1,9 +1,11 @@
--- `slot_streams` meets its contract. The invariant: the first i slots hold their streams, the others the unused one. Assumes nothing.
+-- `slot_streams` meets its contract: a slot that does not fit ends the loop. Assumes nothing.
 use native.Mathlib.Omega.{arith}
 use Rattle.words.specs.Config.{slot_fits, slots_fit}
-use Rattle.words.proofs.UpTo.{passes_at}
+use Rattle.words.proofs.Profile.{and_no}
+use Rattle.words.proofs.UpTo.{fails_at}
 use Rattle.words.proofs.config_words.slot_streams.Goals as goal
 
-pub stream_at-requires : goal.stream_at-requires
+pub returns-in_err-streams : goal.returns-in_err-streams
 unfolding slots_fit
-stream_at-requires c = (omega arith, passes_at (slot_fits _) _ c.requires.1 _ (omega arith))
+returns-in_err-streams c =
+    rw c.from_residual.ensures (and_no _ (fails_at (slot_fits _) _ _ (omega arith) c.in_err-streams.ensures))
