@@ -4,15 +4,15 @@ use mathlib.Core.Path.{◌≡◌, refl}
 use mathlib.Core.Bool.{Bool, true, false}
 use mathlib.Core.List.{List, [], ◌∷◌}
 use native.Mathlib.Omega.{arith}
-use lib.ListN.{length, length-append}
-use lib.Dec.{eqb}
+use lib.ListN.{length}
 use lib.Ieee.{Float, lt}
 use Rattle.ieee.specs.Binary64.{0f, +∞}
 use Rattle.branch.specs.declared.Run.{Run}
 use Rattle.branch.specs.declared.AccessUnit.{AccessUnit}
 use Rattle.branch.specs.declared.Delivered.{Delivered}
 use Rattle.branch.specs.CumulativeIn.{run_refused}
-use Rattle.branch.specs.MainBranch.{OpenAu, none, unit, Main, remove_unit, drain_from, drain, at_peak, look_at_end, finish, Fed, fed, and_then, with_units, close_by, close_au, open_unit, add_bytes, add_run, stamp_of, deliver, packet_step, end_step, main_step}
+use Rattle.branch.specs.MainBranch.{OpenAu, Main, remove_unit, drain_from, drain, at_peak, look_at_end, finish, Fed, and_then, waiting, close_au, open_unit, add_bytes, add_run, stamp_of, deliver, packet_step, end_step, main_step}
+use Rattle.branch.proofs.UnitCounts as unit-counts
 
 abbrev pub units_in : Main → ℕ
 units_in m = m.units + length m.pending
@@ -41,15 +41,9 @@ finish_counts size m = drain_counts size +∞ m
 AtMost : ℕ → Fed → Type 0
 AtMost n f = units_in f.branch ≤ n
 
-close_by_lem : (depth : ℕ) (m : Main) (o : OpenAu) (c : Bool) → eqb (length m.pending) depth ≡ c → AtMost (units_in m + 1) (close_by depth m o)
-unfolding AtMost close_by with_units
-close_by_lem depth m none c e = omega arith
-close_by_lem depth m (unit u) true e = simp e (omega arith)
-close_by_lem depth m (unit u) false e = simp (e, length-append) (omega arith)
-
 close_counts : (depth : ℕ) (m : Main) → units_in (close_au depth m).branch ≤ units_in m + 1
-unfolding AtMost close_au
-close_counts depth m = close_by_lem depth m m.open_au (eqb (length m.pending) depth) refl
+unfolding close_au
+close_counts depth m = unit-counts.close_counts depth (waiting m)
 
 bytes_by : (depth : ℕ) (r : Run) (m : Main) (c : Bool) → run_refused depth m.inflow r ≡ c → AtMost (units_in m) (add_bytes depth r m)
 unfolding AtMost add_bytes
@@ -74,9 +68,8 @@ then_counts : (n : ℕ) (f : Fed) (g : Main → Fed) → AtMost n f → ((m : Ma
 then_counts n f g h k = then_by n f g f.full refl h k
 
 open_counts : (depth : ℕ) (o : OpenAu) (m : Main) → AtMost (units_in m + 1) (open_unit depth o m)
-unfolding AtMost open_unit with_units
-open_counts depth none m = omega arith
-open_counts depth (unit u) m = then_counts (units_in m + 1) (close_au depth m) (λ x. fed (with_units x x.pending (unit u))) (close_counts depth m) (λ x h. h)
+unfolding AtMost open_unit
+open_counts depth o m = unit-counts.open_counts depth o (waiting m)
 
 deliver_counts : (depth : ℕ) (d : Delivered) (m : Main) → AtMost (units_in m + 1) (deliver depth d m)
 unfolding deliver

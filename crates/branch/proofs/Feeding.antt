@@ -5,8 +5,6 @@ use mathlib.Core.Bool.{Bool, true, false, cond}
 use mathlib.Core.List.{List}
 use mathlib.Core.Logic.{inl, inr}
 use native.Mathlib.Omega.{arith}
-use lib.ListN.{length}
-use lib.Dec.{eqb}
 use lib.Ieee.{Float, lt}
 use Rattle.ieee.specs.Binary64.{◌⊕◌, ◌⊖◌, 0f, 1f}
 use Rattle.ieee.specs.MaxMin.{max_of}
@@ -15,7 +13,6 @@ use Rattle.events.specs.declared.Slots.{Slots}
 use Rattle.events.specs.Slots.{noted_if}
 use Rattle.events.proofs.Noted.{noted_all_when_lem}
 use Rattle.branch.specs.declared.Run.{Run}
-use Rattle.branch.specs.declared.AccessUnit.{AccessUnit}
 use Rattle.branch.specs.declared.QueueFull.{QueueFull}
 use Rattle.branch.specs.declared.queue.Place.{Place}
 use Rattle.branch.specs.declared.inflow.CumulativeIn.{CumulativeIn}
@@ -26,9 +23,9 @@ use Rattle.branch.specs.declared.main_branch.MainBranch.{MainBranch}
 use Rattle.branch.specs.Queue.{floats_at}
 use Rattle.branch.specs.CumulativeIn.{final_total, run_refused}
 use Rattle.branch.specs.InflowInWork.{run_of, inflow_of, RunPushedTo}
-use Rattle.branch.specs.Units.{Waiting, Queued, close_by as units-close_by, close_units, open_units}
+use Rattle.branch.specs.Units.{Queued, close_units, open_units}
 use Rattle.branch.specs.UnitsInWork.{waiting_of, UnitsTo, grown_units}
-use Rattle.branch.specs.MainBranch.{OpenAu, none, unit, Main, Fed, refused, fed, and_then, with_units, close_by, close_au, open_unit, add_bytes, add_run, final_fullness, at_peak, look_at_end}
+use Rattle.branch.specs.MainBranch.{OpenAu, Main, Fed, refused, fed, and_then, waiting, queued_to, close_au, open_unit, add_bytes, add_run, final_fullness, at_peak, look_at_end}
 use Rattle.branch.specs.MainInWork.{runs_place, units_place, main_of, BranchLies, DrainedTo, FedTo}
 use Rattle.branch.proofs.Rings.{kept, floats_local, lies_kept, outside_refl, outside_then, outside_wider}
 use Rattle.branch.proofs.UnitQueues.{units_kept, open_grown}
@@ -55,54 +52,15 @@ fed_same w p b x l e = rw e (record { lies = l; outside = outside_refl _ _ w; fu
 
 -- ---- the units, and what else is in the branch
 
-abbrev with_waiting : Main → Waiting → Main
-with_waiting b x =
-    record {
-      inflow = b.inflow;
-      pending = x.pending;
-      open_au = x.open_au;
-      removed = b.removed;
-      required = b.required;
-      peak = b.peak;
-      units = x.units;
-      max_delay = x.max_delay;
-    }
-
-abbrev waiting_in : Main → Waiting
-waiting_in b = record { pending = b.pending; open_au = b.open_au; units = b.units; max_delay = b.max_delay }
-
-abbrev queued_in : Main → Queued → Fed
-queued_in b x = record { full = x.full; branch = with_waiting b x.units }
-
-closed_by : (depth : ℕ) (b : Main) (o : OpenAu) (c : Bool) → eqb (length b.pending) depth ≡ c → close_by depth b o ≡ queued_in b (units-close_by depth (waiting_in b) o)
-unfolding close_by with_units units-close_by
-closed_by depth b none c e = refl
-closed_by depth b (unit u) true e = simp e
-closed_by depth b (unit u) false e = simp e
-
-close_is : (depth : ℕ) (b : Main) → close_au depth b ≡ queued_in b (close_units depth (waiting_in b))
-unfolding close_au close_units
-close_is depth b = closed_by depth b b.open_au (eqb (length b.pending) depth) refl
-
-opened_by : (depth : ℕ) (b : Main) (u : AccessUnit) (c : Bool) → (close_units depth (waiting_in b)).full ≡ c → open_unit depth (unit u) b ≡ queued_in b (open_units depth (unit u) (waiting_in b))
-unfolding open_unit open_units and_then with_units
-opened_by depth b u true e = rw close_is (simp e)
-opened_by depth b u false e = rw close_is (simp e)
-
-open_is : (depth : ℕ) (b : Main) (o : OpenAu) → open_unit depth o b ≡ queued_in b (open_units depth o (waiting_in b))
-unfolding open_unit open_units
-open_is depth b none = refl
-open_is depth b (unit u) = opened_by depth b u (close_units depth (waiting_in b)).full refl
-
 module _ (w v : List Float) (p : MainModel) (b : MainBranch) (pl : Place) (at : pl ≡ units_place p) (l : BranchLies w p b) (r : Result ⊤ QueueFull) (u : Units) where
   abbrev with_units' : MainBranch
   with_units' = record { inflow = b.inflow; units = u; removed = b.removed; required = b.required; peak = b.peak }
 
-  waiting_is : waiting_of w (units_place p) b.units ≡ waiting_in (main_of w p b)
+  waiting_is : waiting_of w (units_place p) b.units ≡ waiting (main_of w p b)
   unfolding waiting_of main_of
   waiting_is = refl
 
-  queued : (x : Queued) → UnitsTo w (units_place p) b.units x r u v → FedTo w p b (queued_in (main_of w p b) x) r with_units' v
+  queued : (x : Queued) → UnitsTo w (units_place p) b.units x r u v → FedTo w p b (queued_to (main_of w p b) x) r with_units' v
   unfolding main_of waiting_of
   queued x m =
       let o = m.outside in
@@ -116,14 +74,16 @@ module _ (w v : List Float) (p : MainModel) (b : MainBranch) (pl : Place) (at : 
       }
 
   pub units_closed : UnitsTo w pl b.units (close_units pl.depth (waiting_of w pl b.units)) r u v → FedTo w p b (close_au p.depth (main_of w p b)) r with_units' v
+  unfolding close_au
   units_closed m =
       let here : UnitsTo w (units_place p) b.units (close_units p.depth (waiting_of w (units_place p) b.units)) r u v = rw at at m in
-      rw (close_is, ← waiting_is) (queued _ here)
+      rw (← waiting_is) (queued _ here)
 
   pub units_opened : (o : OpenAu) → UnitsTo w pl b.units (open_units pl.depth o (waiting_of w pl b.units)) r u v → FedTo w p b (open_unit p.depth o (main_of w p b)) r with_units' v
+  unfolding open_unit
   units_opened o m =
       let here : UnitsTo w (units_place p) b.units (open_units p.depth o (waiting_of w (units_place p) b.units)) r u v = rw at at m in
-      rw (open_is, ← waiting_is) (queued _ here)
+      rw (← waiting_is) (queued _ here)
 
 -- ---- one after the other
 

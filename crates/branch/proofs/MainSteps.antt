@@ -1,11 +1,10 @@
 -- The step of a main chain, put together from what its parts ensure.
 use Prim.Native.Nat.{ℕ, ◌+◌, ◌*◌, ◌≤◌, ◌<◌}
 use mathlib.Core.Path.{◌≡◌, refl, sym, ap, ◌∙◌}
-use mathlib.Core.Bool.{Bool, true, false, true≢false}
+use mathlib.Core.Bool.{true, false, true≢false}
 use mathlib.Core.List.{List, []}
 use native.Mathlib.Omega.{arith}
 use lib.ListN.{length}
-use lib.Dec.{eqb}
 use lib.Ieee.{Float}
 use borrow.Author.Tests.{ltb-true, leb-true, lt-ltb, le-leb}
 use Rattle.ieee.specs.Binary64.{+∞}
@@ -20,11 +19,12 @@ use Rattle.std.specs.Prelude.{⊤, Result, Ok, Err, is_err, IsErr}
 use Rattle.branch.specs.declared.queue.Place.{Place}
 use Rattle.branch.specs.Queue.{Lies, floats_at}
 use Rattle.branch.specs.InflowInWork.{run_of}
-use Rattle.branch.specs.MainBranch.{Main, OpenAu, none, unit, Drained, drain, look_at_end, finish, with_units, close_by, close_au, deliver, packet_step, end_step, main_step, new_main}
+use Rattle.branch.specs.MainBranch.{Main, Drained, drain, look_at_end, finish, waiting, queued_to, close_au, deliver, packet_step, end_step, main_step, new_main}
 use Rattle.branch.specs.declared.units.Units.{Units}
 use Rattle.branch.specs.Units.{close_units}
 use Rattle.branch.specs.UnitsInWork.{unit_at, waiting_of, UnitsTo}
 use Rattle.branch.specs.MainInWork.{new_branch, no_entries, runs_place, units_place, main_of, BranchLies, ready, DrainedTo, FedTo, SteppedTo, Unchanged, StepOf, FinishOf, CloseOf}
+use Rattle.branch.proofs.UnitCounts.{close_twice}
 use Rattle.branch.proofs.Rings.{both, ring_fits, lying_fits, no_entries_lem}
 use Rattle.branch.proofs.UnitQueues.{open_none}
 use Rattle.branch.proofs.Feeding.{units_closed}
@@ -182,16 +182,9 @@ module _ (w : List Float) (p : MainModel) (b : MainBranch) where
 -- ---- a caller that closes first, and then steps to the end
 
 module _ (depth : ℕ) (b : Main) where
-  -- behind a close nothing is open
-  twice_by : (o : OpenAu) (z : Bool) → b.open_au ≡ o → eqb (length b.pending) depth ≡ z → (close_by depth b o).full ≡ false → close_au depth (close_by depth b o).branch ≡ close_by depth b o
-  unfolding close_au close_by with_units
-  twice_by none z o e f = simp o
-  twice_by (unit u) true o e f = absurd (true≢false (sym (simp e) ∙ f))
-  twice_by (unit u) false o e f = simp e
-
-  close_twice : (close_au depth b).full ≡ false → close_au depth (close_au depth b).branch ≡ close_au depth b
+  close_again : (close_au depth b).full ≡ false → close_au depth (close_au depth b).branch ≡ close_au depth b
   unfolding close_au
-  close_twice f = twice_by b.open_au (eqb (length b.pending) depth) refl refl f
+  close_again f = ap (queued_to b) (close_twice depth (waiting b) f)
 
 module _ (size : Float) (depth : ℕ) (d : Delivered) (t : Float) (b : Main) where
   pub closed_full : (close_au depth b).full ≡ true → main_step size depth d true t b ≡ record { full = true; branch = (close_au depth b).branch; events = [] }
@@ -200,7 +193,7 @@ module _ (size : Float) (depth : ℕ) (d : Delivered) (t : Float) (b : Main) whe
 
   pub closed_again : (close_au depth b).full ≡ false → main_step size depth d true t (close_au depth b).branch ≡ main_step size depth d true t b
   unfolding main_step
-  closed_again f = ap (end_step size) (close_twice depth b f)
+  closed_again f = ap (end_step size) (close_again depth b f)
 
 -- ---- a new branch, and the figures
 

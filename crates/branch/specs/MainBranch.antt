@@ -1,6 +1,6 @@
 -- `MainBranch`: the main buffer Bn, from which whole access units are removed at their decode times (H.222.0, 2.4.2.3), with the
 -- unit whose bytes still arrive; and one step of its chain. The queues are lists here; depth is how many entries each may have.
-use Rattle.std.specs.Prelude.{ℕ, ◌+◌, Bool, true, false, cond, List, [], ◌∷◌, ◌++◌, length, eqb, Float}
+use Rattle.std.specs.Prelude.{ℕ, ◌+◌, Bool, true, false, cond, List, [], ◌∷◌, ◌++◌, Float}
 use Rattle.std.specs.Float.Ieee.{lt}
 use Rattle.ieee.specs.Binary64.{◌⊕◌, ◌⊖◌, +∞, 0f, 1f}
 use Rattle.ieee.specs.MaxMin.{max_of, min_of}
@@ -10,7 +10,7 @@ use Rattle.branch.specs.declared.AccessUnit.{AccessUnit}
 use Rattle.branch.specs.declared.Delivered.{Delivered}
 pub use Rattle.branch.specs.Units.{OpenAu, none, unit}
 unfoldable pub use Rattle.branch.specs.Units.{open_of, stamp_of, grown}
-use Rattle.branch.specs.Units.{unit_events}
+use Rattle.branch.specs.Units.{Waiting, Queued, close_units, open_units, unit_events}
 use Rattle.branch.specs.CumulativeIn.{Inflow, settle, arrived_by, final_total, push_run, run_refused}
 
 pub record Main : Type 0 where
@@ -112,31 +112,33 @@ fed b = record { full = false; branch = b }
 unfoldable pub and_then : Fed → (Main → Fed) → Fed
 and_then f g = cond f.full f (g f.branch)
 
-unfoldable pub with_units : Main → List AccessUnit → OpenAu → Main
-with_units b pending open_au =
+-- the units of a branch
+abbrev pub waiting : Main → Waiting
+waiting b = record { pending = b.pending; open_au = b.open_au; units = b.units; max_delay = b.max_delay }
+
+abbrev pub with_waiting : Main → Waiting → Main
+with_waiting b x =
     record {
       inflow = b.inflow;
-      pending = pending;
-      open_au = open_au;
+      pending = x.pending;
+      open_au = x.open_au;
       removed = b.removed;
       required = b.required;
       peak = b.peak;
-      units = b.units;
-      max_delay = b.max_delay;
+      units = x.units;
+      max_delay = x.max_delay;
     }
 
--- close_au: the open unit becomes a pending one
-unfoldable pub close_by : ℕ → Main → OpenAu → Fed
-close_by depth b none = fed b
-close_by depth b (unit u) = cond (eqb (length b.pending) depth) (refused b) (fed (with_units b (b.pending ++ (u ∷ [])) none))
+abbrev pub queued_to : Main → Queued → Fed
+queued_to b q = record { full = q.full; branch = with_waiting b q.units }
 
+-- the open unit becomes a pending one
 unfoldable pub close_au : ℕ → Main → Fed
-close_au depth b = close_by depth b b.open_au
+close_au depth b = queued_to b (close_units depth (waiting b))
 
 -- a stamp closes the open unit, and opens the next
 unfoldable pub open_unit : ℕ → OpenAu → Main → Fed
-open_unit depth none b = fed b
-open_unit depth (unit u) b = and_then (close_au depth b) (λ m. fed (with_units m m.pending (unit u)))
+open_unit depth o b = queued_to b (open_units depth o (waiting b))
 
 -- a run: its bytes are the open unit's too
 unfoldable pub add_bytes : ℕ → Run → Main → Fed

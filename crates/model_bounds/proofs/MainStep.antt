@@ -13,7 +13,8 @@ use Rattle.branch.specs.declared.AccessUnit.{AccessUnit}
 use Rattle.branch.specs.declared.Delivered.{Delivered}
 use Rattle.branch.specs.declared.Run.{Run}
 use Rattle.branch.specs.CumulativeIn.{push_run, run_refused}
-use Rattle.branch.specs.MainBranch.{Main, OpenAu, none, unit, Fed, fed, refused, and_then, with_units, close_by, close_au, open_unit, grown, add_bytes, add_run, stamp_of, deliver, drain, drain_from, after, remove_events, remove_unit, finish, packet_step, end_step, main_step, Step}
+use Rattle.branch.specs.Units.{refused as refused_units, placed, with_open, close_by, close_units, opened, open_units}
+use Rattle.branch.specs.MainBranch.{Main, OpenAu, none, unit, Fed, fed, refused, and_then, waiting, with_waiting, close_au, open_unit, grown, add_bytes, add_run, stamp_of, deliver, drain, drain_from, after, remove_events, remove_unit, finish, packet_step, end_step, main_step, Step}
 use Rattle.bounds.specs.Events.{EventsIn, FewEvents, no_events}
 use Rattle.bounds.specs.Main.{MainBounded, SizeIn}
 use Rattle.bounds.specs.Runs.{RunIs, byte_limit}
@@ -27,8 +28,7 @@ use Rattle.model_bounds.specs.Chain.{OpenIn, none_open, one_open, MainHolds}
 use Rattle.model_bounds.proofs.Open.{RunIn, no_run, a_run, StampIn, no_stamp, a_stamp, DeliveredIn, open_more, open_grows, closed_few, few_more, no_events_few}
 
 -- the open unit is no part of the bounds
-with_open_lem : {n q p : ℕ} (b : Main) (o : OpenAu) → MainBounded n q p b → MainBounded n q p (with_units b b.pending o)
-unfolding with_units
+with_open_lem : {n q p : ℕ} (b : Main) (o : OpenAu) → MainBounded n q p b → MainBounded n q p (with_waiting b (with_open (waiting b) b.pending o))
 with_open_lem b o m =
     record {
       few = m.few;
@@ -77,25 +77,28 @@ and_then_lem {u} {N} {k} N' k' f g h l m next = go f.full
 made : {n q p u k N : ℕ} (b : Main) → n ≤ N → MainBounded n q p b → b.units ≡ u → OpenIn n k q p b.open_au → MainKept u N k b
 made {n} {q} {p} b h m e i = record { holds = record { bytes = n; closed_bytes = q; closed_units = p; few = h; bounded = m; open_unit = i }; same = e }
 
-pended : {n q p : ℕ} (b : Main) → MainBounded n q p b → (w : AccessUnit) (j : ℕ) → UnitIs w j → q + j ≤ n → (o : OpenAu)
-    → MainBounded n (q + j) (p + 1) (with_units b (b.pending ++ (w ∷ [])) o)
-unfolding with_units
-pended b m w j i few o = with_open_lem (with_units b (b.pending ++ (w ∷ [])) b.open_au) o (pend_main b w m i (le_trans few m.few))
+-- the branch with the open unit o, and w among the pending ones
+abbrev pended : Main → AccessUnit → OpenAu → Main
+pended b w o = with_waiting b (with_open (waiting b) (b.pending ++ (w ∷ [])) o)
+
+pended_lem : {n q p : ℕ} (b : Main) → MainBounded n q p b → (w : AccessUnit) (j : ℕ) → UnitIs w j → q + j ≤ n → (o : OpenAu)
+    → MainBounded n (q + j) (p + 1) (pended b w o)
+pended_lem b m w j i few o = with_open_lem (pended b w b.open_au) o (pend_main b w m i (le_trans few m.few))
 
 module _ {n q p k N : ℕ} (depth : ℕ) (b : Main) (h : n ≤ N) (m : MainBounded n q p b) where
-  closed_by_lem : (o : OpenAu) → b.open_au ≡ o → OpenIn n k q p o → MainKept b.units N k (close_by depth b o).branch
-  unfolding close_by with_units
+  closed_by_lem : (o : OpenAu) → b.open_au ≡ o → OpenIn n k q p o → MainKept b.units N k (with_waiting b (close_by depth (waiting b) o).units)
+  unfolding close_by
   closed_by_lem none e i = made b h m refl (subst (OpenIn n k q p) (sym e) i)
   closed_by_lem (unit w) e (one_open j i few less) = go (eqb (length b.pending) depth)
     where
-      go : (t : Bool) → MainKept b.units N k (cond t (refused b) (fed (with_units b (b.pending ++ (w ∷ [])) none))).branch
+      go : (t : Bool) → MainKept b.units N k (with_waiting b (cond t (refused_units (waiting b)) (placed (waiting (pended b w none)))).units)
       go true = made b h m refl (subst (OpenIn n k q p) (sym e) (one_open j i few less))
-      go false = made (with_units b (b.pending ++ (w ∷ [])) none) h (pended b m w j i few none) refl (none_open few less)
+      go false = made (pended b w none) h (pended_lem b m w j i few none) refl (none_open few less)
 
   opened_by : (u : AccessUnit) → UnitIs u 0 → (o : OpenAu) → b.open_au ≡ o → OpenIn n k q p o
-      → MainKept b.units N (suc k) (and_then (close_by depth b o) (λ (x : Main). fed (with_units x x.pending (unit u)))).branch
-  unfolding close_by with_units and_then
-  opened_by u z none e (none_open a less) = made (with_units b b.pending (unit u)) h (with_open_lem b (unit u) m) refl (one_open 0 z (zero q n a) (one p k less))
+      → MainKept b.units N (suc k) (with_waiting b (opened u (close_by depth (waiting b) o)).units)
+  unfolding close_by
+  opened_by u z none e (none_open a less) = made (with_waiting b (with_open (waiting b) b.pending (unit u))) h (with_open_lem b (unit u) m) refl (one_open 0 z (zero q n a) (one p k less))
     where
       zero : (q n : ℕ) → q ≤ n → q + 0 ≤ n
       zero q n h = omega arith
@@ -113,21 +116,19 @@ module _ {n q p k N : ℕ} (depth : ℕ) (b : Main) (h : n ≤ N) (m : MainBound
       more : (k : ℕ) → k ≤ suc k
       more k = omega arith
 
-      go : (t : Bool) → MainKept b.units N (suc k)
-          (and_then (cond t (refused b) (fed (with_units b (b.pending ++ (w ∷ [])) none)))
-          (λ (x : Main). fed (with_units x x.pending (unit u)))).branch
+      go : (t : Bool) → MainKept b.units N (suc k) (with_waiting b (opened u (cond t (refused_units (waiting b)) (placed (waiting (pended b w none))))).units)
       go true = made b h m refl (open_more n (suc k) (le_refl n) (more k) (subst (OpenIn n k q p) (sym e) (one_open j i few less)))
-      go false = made (with_units b (b.pending ++ (w ∷ [])) (unit u)) h (pended b m w j i few (unit u)) refl (one_open 0 z (zero q j n few) (one p k less))
+      go false = made (pended b w (unit u)) h (pended_lem b m w j i few (unit u)) refl (one_open 0 z (zero q j n few) (one p k less))
 
 same_units : {u v N k : ℕ} {c : Main} → v ≡ u → MainKept v N k c → MainKept u N k c
 same_units e m = record { holds = m.holds; same = m.same ∙ e }
 
 pub main_closed : {u N k : ℕ} (depth : ℕ) (b : Main) → MainKept u N k b → MainKept u N k (close_au depth b).branch
-unfolding close_au
+unfolding close_au close_units
 main_closed depth b m = same_units m.same (closed_by_lem depth b m.holds.few m.holds.bounded b.open_au refl m.holds.open_unit)
 
 main_opened : {u N k : ℕ} (depth : ℕ) (o : OpenAu) (b : Main) → StampIn o → MainKept u N k b → MainKept u N (suc k) (open_unit depth o b).branch
-unfolding open_unit close_au
+unfolding open_unit open_units close_units
 main_opened {u} {N} {k} depth none b no_stamp m = kept_more N (suc k) (le_refl N) (more k) m
   where
     more : (k : ℕ) → k ≤ suc k
@@ -156,7 +157,7 @@ module _ {u N k j : ℕ} (depth : ℕ) (r : Run) (i : RunIs r j) (few : N + j �
       }
 
   run_kept : MainKept u (N + j) k (add_bytes depth r b).branch
-  unfolding add_bytes with_units
+  unfolding add_bytes
   run_kept = go (run_refused depth b.inflow r)
     where
       go : (t : Bool) → MainKept u (N + j) k (cond t (refused b) (fed pushed)).branch
