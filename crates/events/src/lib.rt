@@ -62,6 +62,8 @@ impl Slots {
         }
     }
 
+    // Figure and decode time are two parameters, here and below: an event is noted where its figure is worked out, and a struct made there would
+    // be taken apart into the two lists at once.
     // One event in slot k; where there is no such slot, or the count is at its end, nothing changes.
     // Ruled out: a later, smaller figure in the place of the largest; the decode time of a later event.
     #[tactic(auto, unfolding(crate::specs::Slots::first_in_slot, crate::specs::Slots::later_in_slot), using(crate::proofs::Noted::noted_none, crate::proofs::Noted::noted_past, crate::proofs::Noted::noted_end, crate::proofs::Noted::noted_first, crate::proofs::Noted::noted_later))]

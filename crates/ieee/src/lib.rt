@@ -1,5 +1,5 @@
 // Floats of the replay: the larger and the smaller of two, the whole number toward zero and a count as a float. The laws on floats
-// stand in proofs/.
+// stand in proofs/. Two operands are two parameters, as in std.
 #![tactic(auto)]
 
 ghost use Rattle.std.specs.Prelude.{◌≡◌, pos};

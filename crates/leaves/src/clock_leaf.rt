@@ -21,6 +21,7 @@ pub extern "C" fn leaf_extend_near(raw: u64, reference: u64, out: &mut [u64]) ->
     }
 }
 
+// Two clocks are two words for C.
 // Ruled out: the size of a negative step without its sign; `b` - `a`.
 #[unsafe(no_mangle)]
 pub extern "C" fn leaf_delta_ticks(a: u64, b: u64, out: &mut [u64]) -> u64

@@ -42,7 +42,8 @@ impl Text<'_> {
         }
     }
 
-    // By hand and not by `write!`, which promises its bytes where it succeeds and not that it does: every byte of this text is promised.
+    // By hand and not by `write!`, which promises its bytes where it succeeds and not that it does: every byte of this text is promised. Nor by the
+    // crate `itoa`: a law would have to tie its decimal text to the one that the contract names, for eight lines less.
     #[tactic(auto, using(crate::proofs::Written::no_longer, crate::proofs::Written::same_text, crate::proofs::Decimal::one_digit, crate::proofs::Decimal::digits_most))]
     fn number(&mut self, n: u64)
         ensures { Appends 20 (decimal n) self.old self.new }

@@ -105,7 +105,8 @@ struct Places {
     extension: usize,
 }
 
-// A byte behind the end reads as 0.
+// A byte behind the end reads as 0. Slice and place are two parameters, here and below, since a field's place is a sum of others: a struct of
+// both would be made anew at each call. Where a place is below 1000 no such sum wraps; a type that said so would be taken apart at each sum.
 fn byte_or_zero(raw: &[u8], at: usize) -> u8
     ensures { result ≡ get_or raw.now at 0 }
 {
@@ -127,7 +128,7 @@ fn ends_within(on: bool, limit: usize, at: usize, n: usize) -> Result<(), Trunca
     Ok(())
 }
 
-// The place behind a field of n bytes, if it is there.
+// The place behind a field of n bytes, if it is there, which is its flag in the table too.
 fn past(on: bool, at: usize, n: usize) -> usize
     requires { (at < 1000) × (n < 1000) }
     ensures { (result ≡ cond on (at + n) at) × (result ≤ at + n) }

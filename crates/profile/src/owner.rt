@@ -14,7 +14,7 @@ pub enum Owner {
     Nobody,
 }
 
-// The PIDs of a configuration alone, in its slots with their counts.
+// The PIDs of a configuration alone, in its slots with their counts, as the configuration has them.
 #[derive(Clone, Copy)]
 pub struct Pids {
     pub streams: [u16; MAX_STREAMS],

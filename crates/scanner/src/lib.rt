@@ -149,7 +149,8 @@ fn decode_ts(flags: u8, h: PesHeader) -> Option<u64>
     }
 }
 
-// The stamp, if the run of so many bytes behind the first n reaches s.
+// The stamp, if the run of so many bytes behind the first n reaches s. Two parameters, here and below: n bytes of the unit came
+// before, which its scanner knows, and size come now, which the packet knows.
 #[tactic(auto, unfolding(crate::specs::Joined::stamp_here))]
 fn stamp_here(n: usize, size: usize, s: usize, stamp: Option<u64>) -> Option<u64>
     ensures { result ≡ stamp_here n size s stamp }

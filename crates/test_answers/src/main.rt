@@ -50,7 +50,7 @@ fn level(word: u64) -> u64 {
     if word == NEGATIVE_ZERO { 0 } else { word }
 }
 
-// Whether the first words are the list's, and the others are what `rest` says.
+// Whether the first count words are the list's, and the others are what `rest` says: a slice of count words would not have the others.
 fn same_words(list: &[u8], words: &[u64], count: usize, rest: u64) -> bool {
     words.iter().enumerate().all(|(i, found)| {
         let wanted = if i < count { word(list, i) } else { rest };

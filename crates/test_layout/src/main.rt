@@ -26,6 +26,7 @@ fn line(rt: &impl Print) -> io::Result<()> {
     rt.print("\n")
 }
 
+// Where a line is printed and what it tells of are two parameters, here and below.
 fn layout(rt: &impl Print, buf: &[u8]) -> io::Result<()> {
     match packet::detect_packet_layout(buf) {
         Some(y) => {

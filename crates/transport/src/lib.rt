@@ -91,7 +91,8 @@ fn push_run(tb: FluidFifo, from: f64, to: f64, len: usize) -> Through
     }
 }
 
-// The runs lie in the packet, whose payload begins at `payload_start`. No sum is made, since it could wrap.
+// The runs lie in the packet, whose payload begins at `payload_start`. No sum is made, since it could wrap. Two parameters, here and below: the
+// runs come of the scanner, the place of the packet's header, and in a struct they would have to fit at each use.
 #[tactic(auto, unfolding(crate::specs::Arrive::fits_in))]
 fn fits(runs: Runs, payload_start: usize) -> bool
     ensures { result ≡ fits_in payload_start runs }

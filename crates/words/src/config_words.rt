@@ -10,7 +10,8 @@ use profile::{TStdBranch, TStdConfig, TStdStream, TStdStreamModel};
 
 pub const PROFILE_WORDS: usize = 69;
 
-// The words of a slot, and where the slots and the system PIDs begin.
+// The words of a slot, and where the slots and the system PIDs begin. A count beside the words, below, is that of slots in use and not their
+// length: C lends all 69, and a slot's place is counted from their begin.
 const SLOT_WORDS: usize = 6;
 
 const SLOTS: usize = 5;
