@@ -139,6 +139,7 @@ impl VideoBranch {
     }
 
     // A run goes into MBn; metric is what it adds to the open unit.
+    #[tactic(auto, using(crate::proofs::VideoFeeding::run_queued, crate::proofs::VideoFeeding::run_refused_lem))]
     fn queue_run(
         &mut self,
         m: VideoLayout,
@@ -167,6 +168,7 @@ impl VideoBranch {
     }
 
     // A run of content: its bytes are the open unit's too.
+    #[tactic(auto, using(crate::proofs::VideoFeeding::fed_same, crate::proofs::VideoFeeding::run_none, crate::proofs::VideoFeeding::content_fed))]
     fn add_content(&mut self, m: VideoLayout, work: &mut [f64], run: Run) -> Result<(), QueueFull>
         requires video_lies { VideoLies work.old m self.old }
         requires apart { Apart m }
@@ -179,6 +181,7 @@ impl VideoBranch {
     }
 
     // A run of header bytes, with its mark.
+    #[tactic(auto, using(crate::proofs::VideoFeeding::fed_same, crate::proofs::VideoFeeding::run_none, crate::proofs::VideoFeeding::fed_full, crate::proofs::VideoFeeding::header_fed))]
     fn add_header(&mut self, m: VideoLayout, work: &mut [f64], run: Run) -> Result<(), QueueFull>
         requires video_lies { VideoLies work.old m self.old }
         requires apart { Apart m }
@@ -210,6 +213,7 @@ impl VideoBranch {
 
     // At the end the unit whose bytes were arriving becomes a pending one. Ruled out: a unit that is dropped where its queue is full;
     // a unit that is pending and still open.
+    #[tactic(auto, using(crate::proofs::VideoSteps::ready_is))]
     pub fn close(&mut self, p: VideoModel, work: &mut [f64]) -> Result<(), QueueFull>
         ensures { CloseOf work.old p self.old result self.new work.new }
     {
@@ -222,6 +226,7 @@ impl VideoBranch {
     // A packet that arrives at t and delivers d. Its events go to the slots from k on.
     // Ruled out: a unit removed before the leak has come to its decode time; header bytes that enter EBn; a queue called full with a
     // place left; work of another chain written.
+    #[tactic(auto, using(crate::proofs::VideoSteps::ready_is))]
     pub fn step(
         &mut self,
         p: VideoModel,
@@ -243,6 +248,7 @@ impl VideoBranch {
 
     // The end of the stream: the leak goes on until all that is queued has left, and MBn's busy stretch is looked at once.
     // Ruled out: an open unit that is never removed; a busy stretch told before the leak's end.
+    #[tactic(auto, using(crate::proofs::VideoSteps::ready_is, crate::proofs::VideoSteps::layout_apart, crate::proofs::VideoFeeding::units_closed))]
     pub fn finish(
         &mut self,
         p: VideoModel,

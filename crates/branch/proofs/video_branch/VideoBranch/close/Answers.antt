@@ -1,18 +1,9 @@
 -- `branch::video_branch::VideoBranch::close` meets its contract. Assumes nothing.
 use mathlib.Core.Path.{sym, ◌∙◌}
 use mathlib.Core.Bool.{true≢false}
-use native.Mathlib.Omega.{arith}
 use Rattle.branch.proofs.VideoFeeding.{units_closed}
 use Rattle.branch.proofs.VideoSteps.{ready_is, layout_apart}
 use Rattle.branch.proofs.video_branch.VideoBranch.close.Goals as goal
-
-pub layout-requires : goal.layout-requires
-layout-requires c = let r = ready_is c.args.work.now _ _ _ (sym c.ready.ensures ∙ c.if-not-ready.false) in omega arith
-
-pub close-requires : goal.close-requires
-close-requires c =
-    let r = ready_is c.args.work.now _ _ _ (sym c.ready.ensures ∙ c.if-not-ready.false) in
-    rw c.layout.ensures r.lies.pending
 
 pub returns : goal.returns
 returns c =

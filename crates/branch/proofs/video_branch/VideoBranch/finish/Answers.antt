@@ -1,21 +1,12 @@
 -- `branch::video_branch::VideoBranch::finish` meets its contract. Assumes nothing.
 use mathlib.Core.Path.{sym, ap, ◌∙◌}
 use mathlib.Core.Bool.{true≢false}
-use native.Mathlib.Omega.{arith}
 use Rattle.std.specs.Prelude.{is_err}
 use Rattle.events.specs.Event.{mb_busy, kind_of, figure_of, decode_of}
 use Rattle.events.proofs.Noted.{noted_all_when_lem}
 use Rattle.branch.proofs.VideoFeeding.{units_closed}
 use Rattle.branch.proofs.VideoSteps.{ready_is, layout_apart, end_refused, end_reached}
 use Rattle.branch.proofs.video_branch.VideoBranch.finish.Goals as goal
-
-pub layout-m-requires : goal.layout-m-requires
-layout-m-requires c = let r = ready_is c.args.work.now _ _ _ (sym c.ready.ensures ∙ c.if-not-ready.false) in omega arith
-
-pub close-requires : goal.close-requires
-close-requires c =
-    let r = ready_is c.args.work.now _ _ _ (sym c.ready.ensures ∙ c.if-not-ready.false) in
-    rw c.layout-m.ensures r.lies.pending
 
 pub returns-in_err-close : goal.returns-in_err-close
 returns-in_err-close c =
@@ -26,19 +17,6 @@ returns-in_err-close c =
       ends = λ h. end_refused _ _ _ _ _ _ _ _ _ closed (ap is_err c.in_err-close.was) c.from_residual.ensures.0;
       otherwise = λ h. absurd (true≢false (sym q ∙ h));
     }
-
-pub advance-requires-clause-video_lies : goal.advance-requires-clause-video_lies
-advance-requires-clause-video_lies c =
-    let r = ready_is c.args.work.now _ _ _ (sym c.ready.ensures ∙ c.if-not-ready.false) in
-    let closed = units_closed _ _ _ _ r.lies (layout_apart _) _ _ (rw c.layout-m.ensures at c.close.ensures) in
-    rw c.layout-m.ensures closed.lies
-
-pub advance-requires-clause-k_bound : goal.advance-requires-clause-k_bound
-advance-requires-clause-k_bound c =
-    let r = ready_is c.args.work.now _ _ _ (sym c.ready.ensures ∙ c.if-not-ready.false) in
-    let l = (rw c.layout-m.ensures at c.close.ensures).lies in
-    let n = c.close.ensures.count in
-    (omega (arith, r.slot), omega (arith, l.some, n, r.units, r.room))
 
 pub returns : goal.returns
 unfolding kind_of figure_of decode_of
