@@ -313,7 +313,7 @@ pub record FinishOf (w : List Float) (p : VideoModel) (b : VideoBranch) (k : ℕ
 -- what a close ensures: it needs no slots, so the test is that of slot 0
 pub record CloseOf (w : List Float) (p : VideoModel) (b : VideoBranch) (r : Result ⊤ QueueFull) (b' : VideoBranch) (v : List Float) : Type 0 where
   pub closes : ready (length w) p b 0 ≡ true → VideoFedTo w (layout_of p) b (close_au p.depth (chain_of w (layout_of p) b)) r b' v
-  pub otherwise : ready (length w) p b 0 ≡ false → ((r ≡ Ok tt) × (b' ≡ b)) × (v ≡ w)
+  pub otherwise : ready (length w) p b 0 ≡ false → (r ≡ Ok tt) × ((b' ≡ b) × (v ≡ w))
 
 -- the branch before the first packet
 unfoldable pub new_branch : VideoBranch

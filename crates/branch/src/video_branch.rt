@@ -52,6 +52,7 @@ fn ready(b: VideoBranch, p: VideoModel, len: usize, k: usize) -> bool
         & (k < 64)
 }
 
+// The three rings stand one behind the other.
 fn layout(p: VideoModel) -> VideoLayout
     requires { p.base + 8 * p.depth ≤ 9223372036854775807 }
     ensures { result ≡ layout_of p }
@@ -247,7 +248,7 @@ impl VideoBranch {
     }
 
     // The end of the stream: the leak goes on until all that is queued has left, and MBn's busy stretch is looked at once.
-    // Ruled out: an open unit that is never removed; a busy stretch told before the leak's end.
+    // Ruled out: a unit that is still open; a busy stretch that is looked at before the leak's end.
     #[tactic(auto, using(crate::proofs::VideoSteps::ready_is, crate::proofs::VideoSteps::layout_apart, crate::proofs::VideoFeeding::units_closed))]
     pub fn finish(
         &mut self,
