@@ -66,7 +66,7 @@ impl Slots {
     // be taken apart into the two lists at once.
     // One event in slot k; where there is no such slot, or the count is at its end, nothing changes.
     // Ruled out: a later, smaller figure in the place of the largest; the decode time of a later event.
-    #[tactic(auto, unfolding(crate::specs::Slots::first_in_slot, crate::specs::Slots::later_in_slot), using(crate::proofs::Noted::noted_none, crate::proofs::Noted::noted_past, crate::proofs::Noted::noted_end, crate::proofs::Noted::noted_first, crate::proofs::Noted::noted_later))]
+    #[tactic(auto, using(crate::proofs::Noted::noted_none, crate::proofs::Noted::noted_past, crate::proofs::Noted::noted_end))]
     pub fn note(&mut self, k: usize, figure: f64, decode: f64)
         ensures { self.new ≡ noted k figure decode self.old }
     {
@@ -97,7 +97,6 @@ impl Slots {
     // The same for a kind of the chain whose slots begin at chain_k. The test is a parameter, as in std's `bool::then`, since up to three
     // events are noted one behind the other, each with a test of its own. Ruled out: the event in the slot of another kind; a chain_k near
     // its type's end that comes round to a slot.
-    #[tactic(auto, using(crate::proofs::Noted::noted_if_capped))]
     pub fn note_kind_if(
         &mut self,
         found: bool,
