@@ -9,6 +9,7 @@ use clock::Pcr;
 
 // Ruled out: a stamp stored with a refusal; number 0 with no stamp in a slice that has room.
 #[unsafe(no_mangle)]
+#[tactic(auto, unfolding(crate::specs::Leaves::stamp_leaf), using(crate::proofs::Stored::stored_none))]
 pub extern "C" fn leaf_extend_near(raw: u64, reference: u64, out: &mut [u64]) -> u64
     ensures { Told (stamp_leaf (extend_near raw reference)) result out.old out.new }
 {
@@ -24,6 +25,7 @@ pub extern "C" fn leaf_extend_near(raw: u64, reference: u64, out: &mut [u64]) ->
 // Two clocks are two words for C.
 // Ruled out: the size of a negative step without its sign; `b` - `a`.
 #[unsafe(no_mangle)]
+#[tactic(auto, unfolding(crate::specs::Leaves::delta_leaf), using(crate::proofs::Stored::stored_none))]
 pub extern "C" fn leaf_delta_ticks(a: u64, b: u64, out: &mut [u64]) -> u64
     ensures { Told (delta_leaf (delta_ticks (record { ticks_27mhz = a }) (record { ticks_27mhz = b }))) result out.old out.new }
 {

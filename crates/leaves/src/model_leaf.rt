@@ -35,6 +35,7 @@ fn model_words(model: TStdStreamModel) -> [u64; 5]
 
 // Ruled out: words stored with a refusal; the words of a Main branch for a video stream.
 #[unsafe(no_mangle)]
+#[tactic(auto, unfolding(crate::specs::Leaves::model_leaf), using(crate::proofs::Stored::stored_none))]
 pub extern "C" fn leaf_model(kind: u64, a: u64, b: u64, c: u64, out: &mut [u64]) -> u64
     ensures { Told (model_leaf (model_by kind a b c)) result out.old out.new }
 {

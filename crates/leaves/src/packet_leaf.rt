@@ -54,6 +54,7 @@ fn field_flags(f: AdaptationField) -> u64
         + flag(f.adaptation_field_extension.is_some())
 }
 
+#[tactic(auto, unfolding(crate::specs::Packet::present_field), using(crate::proofs::Stored::filled_behind))]
 fn present_field(f: AdaptationField) -> [u64; 18]
     ensures { result ≡ present_field f }
 {
@@ -87,6 +88,7 @@ fn field_words(field: Option<AdaptationField>) -> [u64; 18]
     }
 }
 
+#[tactic(auto, unfolding(crate::specs::Packet::packet_words), using(crate::proofs::Stored::filled_behind))]
 fn packet_words(p: TsPacket) -> [u64; 26]
     ensures { result ≡ packet_words p }
 {
@@ -107,6 +109,7 @@ fn packet_words(p: TsPacket) -> [u64; 26]
 
 // Ruled out: the words of a packet with a bad sync byte; a field that is not there told as one of value 0.
 #[unsafe(no_mangle)]
+#[tactic(auto, unfolding(crate::specs::Packet::parse_leaf))]
 pub extern "C" fn leaf_parse(bytes: &[u8], out: &mut [u64]) -> u64
     ensures { Told (parse_leaf (parse_of bytes.now)) result out.old out.new }
 {

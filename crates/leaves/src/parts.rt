@@ -16,6 +16,7 @@ pub(crate) fn clock_words(clock: Option<ClockReference>) -> (u64, u64)
 }
 
 // The countdown as its eight bits.
+#[tactic(auto, unfolding(crate::specs::Packet::countdown_word))]
 pub(crate) fn countdown_word(countdown: Option<i8>) -> u64
     ensures { result ≡ countdown_word countdown }
 {

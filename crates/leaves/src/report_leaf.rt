@@ -10,6 +10,7 @@ use words::{REPORT_WORDS, write_report};
 
 // Number 2 for words of another length. Ruled out: a report changed by a refusal; an event that is counted and makes no line.
 #[unsafe(no_mangle)]
+#[tactic(auto, using(crate::proofs::RecordCases::other_report, crate::proofs::RecordCases::other_line, crate::proofs::RecordCases::records_done))]
 pub extern "C" fn leaf_record(report: &mut [u64], line: &[u64]) -> u64
     ensures { Records report.old line.now result report.new }
 {

@@ -25,6 +25,7 @@ pub(crate) struct AnyFigure;
 impl SecondsWord for AnyFigure {
     ghost told = { to_bits binary64 };
 
+    #[tactic(auto, using(crate::proofs::FloatWord::nan_told))]
     fn word(seconds: f64) -> u64 {
         if seconds.is_nan() {
             return QUIET;

@@ -1,7 +1,6 @@
 -- `leaf_delta_ticks` meets its contract: each arm is a case of `delta_leaf`. Assumes nothing.
 use Rattle.std.proofs.Common.{refl, to_z-of_z, w64, SFits, rules}
 use Rattle.leaves.specs.Leaves.{delta_leaf}
-use Rattle.leaves.proofs.Stored.{stored_none}
 use Rattle.leaves.proofs.Complement.{complement}
 use Rattle.leaves.proofs.clock_leaf.leaf_delta_ticks.Goals as goal
 
@@ -10,7 +9,3 @@ unfolding delta_leaf
 returns-in-Ok c =
     let f : SFits w64 c.in-Ok.step = search rules in
     rw (← c.in-Ok.ensures) (record { is = refl; holds = rw (c.cast_unsigned.ensures, to_z-of_z f, complement c.in-Ok.step) at c.put.ensures })
-
-pub returns-in-Err : goal.returns-in-Err
-unfolding delta_leaf
-returns-in-Err c = rw (← c.in-Err.ensures) (record { is = c.number.ensures; holds = stored_none _ })

@@ -9,7 +9,3 @@ unfolding countdown_word
 returns-in-Some c =
     let f : SFits w8 c.in-Some.n = search rules in
     rw (c.in-Some.is, c.plus_one.ensures, c.from.ensures, c.cast_unsigned.ensures, to_z-of_z f, narrow _ f)
-
-pub returns-in-None : goal.returns-in-None
-unfolding countdown_word
-returns-in-None c = rw c.in-None.is
