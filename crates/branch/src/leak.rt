@@ -125,6 +125,28 @@ fn transfer(f: Flow, w: Place, work: &[f64], bytes: f64) -> Flow
     }
 }
 
+impl Turned {
+    // The runs up to t are settled, with what has arrived by then; a look at t that was the last one is not taken again.
+    fn reached(self, m: VideoLayout, work: &[f64], t: f64) -> (Leak, f64)
+        requires leak_lies { LeakLies work.now m self.leak }
+        requires settled_at { (total : Float) → self.total ≡ Some total → SettledAt (leak_of work.now m self.leak).mb_in t total }
+        ensures { ReachedBy work.now m t self.leak result.0 result.1 }
+    {
+        if let Some(total) = self.total {
+            return (self.leak, total);
+        }
+        let got = self.leak.mb_in.arrived_by(m.runs, work, t);
+        let leak = Leak {
+            mb_in: got.inflow,
+            ..self.leak
+        };
+        (leak, got.total)
+    }
+}
+
+// The most turns of a leak: 2^25 + 4, more than any takes.
+const BUDGET: u64 = 33554436;
+
 impl Leak {
     // Where MBn's busy stretch began: where there is none, a fullness over a byte begins one.
     fn busy_from(self, fullness: f64) -> f64
@@ -168,187 +190,170 @@ impl Leak {
             ..self
         }
     }
-}
 
-// MBn at the leak's time: what waits there, its peak and its busy stretch.
-fn look(l: Leak, m: VideoLayout, work: &[f64]) -> Looked
-    requires { LeakLies work.now m l }
-    ensures { LooksBy work.now m l result }
-{
-    let got = l.mb_in.arrived_by(m.runs, work, l.proc_time);
-    let available = got.total - l.flow.transferred;
-    let settled = Leak {
-        mb_in: got.inflow,
-        ..l
-    };
-    Looked {
-        leak: settled.seen(available),
-        available,
-    }
-}
-
-// EBn is full: all that arrives up to t stays in MBn.
-fn stalled(l: Leak, m: VideoLayout, work: &[f64], t: f64) -> Turned
-    requires { LeakLies work.now m l }
-    ensures { TurnIs work.now m t result (break (stalledOf (leak_of work.now m l) t)) }
-{
-    let got = l.mb_in.arrived_by(m.runs, work, t);
-    let fullness = got.total - l.flow.transferred;
-    Turned {
-        total: Some(got.total),
-        leak: Leak {
+    // MBn at the leak's time: what waits there, its peak and its busy stretch.
+    fn look(self, m: VideoLayout, work: &[f64]) -> Looked
+        requires { LeakLies work.now m self }
+        ensures { LooksBy work.now m self result }
+    {
+        let got = self.mb_in.arrived_by(m.runs, work, self.proc_time);
+        let available = got.total - self.flow.transferred;
+        let settled = Leak {
             mb_in: got.inflow,
-            busy_since: l.busy_from(fullness),
-            mb_peak: max(l.mb_peak, fullness),
-            proc_time: t,
-            ..l
-        },
-    }
-}
-
-// The leak keeps pace: what arrives up to t leaves, or as much as EBn has room for. Where EBn fills up on the way, the leak goes on from
-// the time of that byte.
-fn paced(l: Leak, m: VideoLayout, work: &[f64], t: f64, available: f64, room: f64) -> Turned
-    requires { LeakLies work.now m l }
-    ensures { TurnIs work.now m t result (pacedOf (leak_of work.now m l) t available room) }
-{
-    let got = l.mb_in.arrived_by(m.runs, work, t);
-    let arriving = got.total - l.flow.transferred - available;
-    let take = min(arriving, max(room, 0.0));
-    let flow = transfer(l.flow, m.marks, work, max(take, 0.0));
-    let mut next = Turned {
-        total: Some(got.total),
-        leak: Leak {
-            mb_in: got.inflow,
-            flow,
-            proc_time: t,
-            ..l
-        },
-    };
-    if take + 1.0 < arriving {
-        if let Some(tt) = got
-            .inflow
-            .time_of_cumulative(m.runs, work, flow.transferred)
-        {
-            next.total = None;
-            next.leak.proc_time = max(tt, l.proc_time);
+            ..self
+        };
+        Looked {
+            leak: settled.seen(available),
+            available,
         }
     }
-    next
-}
 
-// Bytes wait: they leave at the rate up to t, or all of them, or as many as EBn has room for.
-fn backlogged(l: Leak, m: VideoLayout, work: &[f64], t: f64, available: f64, room: f64) -> Leak
-    requires { LeakLies work.now m l }
-    ensures { LeakIs work.now m result (backloggedOf (rates_of m) (leak_of work.now m l) t available room) }
-{
-    let now = l.proc_time;
-    let take = min(min(m.rbx * (t - now), available), room);
-    Leak {
-        flow: transfer(l.flow, m.marks, work, take),
-        proc_time: now + max(take / m.rbx, 1e-6),
-        ..l
-    }
-}
-
-// A turn of the leak toward t.
-fn turn(l: Leak, m: VideoLayout, work: &[f64], t: f64) -> Turned
-    requires { LeakLies work.now m l }
-    ensures { TurnIs work.now m t result (step_of (rates_of m) t (looked (leak_of work.now m l)) (mb_fullness (leak_of work.now m l) l.proc_time) (eb_room (rates_of m) (flow_of work.now m.marks l.flow))) }
-{
-    let room = m.eb_size - (l.flow.eb_in - l.flow.eb_removed);
-    let s = look(l, m, work);
-    if room <= 1.0 {
-        return stalled(s.leak, m, work, t);
-    }
-    if s.available <= 1.0 {
-        return paced(s.leak, m, work, t, s.available, room);
-    }
-    Turned {
-        total: None,
-        leak: backlogged(s.leak, m, work, t, s.available, room),
-    }
-}
-
-// The most turns of a leak: 2^25 + 4, more than any takes.
-const BUDGET: u64 = 33554436;
-
-// Turns until the leak has come to t.
-fn turns(l: Leak, m: VideoLayout, work: &[f64], t: f64) -> Turned
-    requires { LeakLies work.now m l }
-    ensures { TurnsEnd work.now m t result (ran (rates_of m) t (leak_of work.now m l)) }
-{
-    let mut s = Turned {
-        total: None,
-        leak: l,
-    };
-    for _ in 0..BUDGET {
-        if s.total.is_some() {
-            break;
+    // EBn is full: all that arrives up to t stays in MBn.
+    fn stalled(self, m: VideoLayout, work: &[f64], t: f64) -> Turned
+        requires { LeakLies work.now m self }
+        ensures { TurnIs work.now m t result (break (stalledOf (leak_of work.now m self) t)) }
+    {
+        let got = self.mb_in.arrived_by(m.runs, work, t);
+        let fullness = got.total - self.flow.transferred;
+        Turned {
+            total: Some(got.total),
+            leak: Leak {
+                mb_in: got.inflow,
+                busy_since: self.busy_from(fullness),
+                mb_peak: max(self.mb_peak, fullness),
+                proc_time: t,
+                ..self
+            },
         }
-        if !(s.leak.proc_time < t - 1e-6) {
-            break;
+    }
+
+    // The leak keeps pace: what arrives up to t leaves, or as much as EBn has room for. Where EBn fills up on the way, the leak goes on
+    // from the time of that byte.
+    fn paced(self, m: VideoLayout, work: &[f64], t: f64, available: f64, room: f64) -> Turned
+        requires { LeakLies work.now m self }
+        ensures { TurnIs work.now m t result (pacedOf (leak_of work.now m self) t available room) }
+    {
+        let got = self.mb_in.arrived_by(m.runs, work, t);
+        let arriving = got.total - self.flow.transferred - available;
+        let take = min(arriving, max(room, 0.0));
+        let flow = transfer(self.flow, m.marks, work, max(take, 0.0));
+        let mut next = Turned {
+            total: Some(got.total),
+            leak: Leak {
+                mb_in: got.inflow,
+                flow,
+                proc_time: t,
+                ..self
+            },
+        };
+        if take + 1.0 < arriving {
+            if let Some(tt) = got
+                .inflow
+                .time_of_cumulative(m.runs, work, flow.transferred)
+            {
+                next.total = None;
+                next.leak.proc_time = max(tt, self.proc_time);
+            }
         }
-        s = turn(s.leak, m, work, t);
+        next
     }
-    s
-}
 
-// The runs up to t are settled, with what has arrived by then; a look at t that was the last one is not taken again.
-fn reached(s: Turned, m: VideoLayout, work: &[f64], t: f64) -> (Leak, f64)
-    requires leak_lies { LeakLies work.now m s.leak }
-    requires settled_at { (total : Float) → s.total ≡ Some total → SettledAt (leak_of work.now m s.leak).mb_in t total }
-    ensures { ReachedBy work.now m t s.leak result.0 result.1 }
-{
-    if let Some(total) = s.total {
-        return (s.leak, total);
+    // Bytes wait: they leave at the rate up to t, or all of them, or as many as EBn has room for.
+    fn backlogged(self, m: VideoLayout, work: &[f64], t: f64, available: f64, room: f64) -> Leak
+        requires { LeakLies work.now m self }
+        ensures { LeakIs work.now m result (backloggedOf (rates_of m) (leak_of work.now m self) t available room) }
+    {
+        let now = self.proc_time;
+        let take = min(min(m.rbx * (t - now), available), room);
+        Leak {
+            flow: transfer(self.flow, m.marks, work, take),
+            proc_time: now + max(take / m.rbx, 1e-6),
+            ..self
+        }
     }
-    let got = s.leak.mb_in.arrived_by(m.runs, work, t);
-    let leak = Leak {
-        mb_in: got.inflow,
-        ..s.leak
-    };
-    (leak, got.total)
-}
 
-// Behind the turns: MBn's peak, its overflow and its busy stretch at t, where total has arrived.
-fn closed(l: Leak, m: VideoLayout, total: f64, t: f64, slots: &mut Slots, k: usize) -> Leak
-    requires { k ≤ 64 }
-    ensures { ClosedBy m l total t k slots.old slots.new result }
-{
-    let fullness = total - l.flow.transferred;
-    slots.note_kind_if(
-        fullness > m.mb_size + 1.0,
-        k,
-        EventKind::Overflow,
-        fullness,
-        0.0,
-    );
-    Leak {
-        longest_busy: l.longest_until(t),
-        mb_peak: max(l.mb_peak, fullness),
-        proc_time: max(l.proc_time, t),
-        ..l
+    // A turn of the leak toward t.
+    fn turn(self, m: VideoLayout, work: &[f64], t: f64) -> Turned
+        requires { LeakLies work.now m self }
+        ensures { TurnIs work.now m t result (step_of (rates_of m) t (looked (leak_of work.now m self)) (mb_fullness (leak_of work.now m self) self.proc_time) (eb_room (rates_of m) (flow_of work.now m.marks self.flow))) }
+    {
+        let room = m.eb_size - (self.flow.eb_in - self.flow.eb_removed);
+        let s = self.look(m, work);
+        if room <= 1.0 {
+            return s.leak.stalled(m, work, t);
+        }
+        if s.available <= 1.0 {
+            return s.leak.paced(m, work, t, s.available, room);
+        }
+        Turned {
+            total: None,
+            leak: s.leak.backlogged(m, work, t, s.available, room),
+        }
     }
-}
 
-// The leak up to t; the first call only sets the clock.
-pub(crate) fn leak_until(
-    l: Leak,
-    m: VideoLayout,
-    work: &[f64],
-    t: f64,
-    slots: &mut Slots,
-    k: usize,
-) -> Leak
-    requires leak_lies { LeakLies work.now m l }
-    requires k_bound { k ≤ 64 }
-    ensures { LeaksTo work.now m t k slots.old slots.new (leak_of work.now m l) result }
-{
-    if l.proc_time == f64::NEG_INFINITY {
-        return Leak { proc_time: t, ..l };
+    // Turns until the leak has come to t.
+    fn turns(self, m: VideoLayout, work: &[f64], t: f64) -> Turned
+        requires { LeakLies work.now m self }
+        ensures { TurnsEnd work.now m t result (ran (rates_of m) t (leak_of work.now m self)) }
+    {
+        let mut s = Turned {
+            total: None,
+            leak: self,
+        };
+        for _ in 0..BUDGET {
+            if s.total.is_some() {
+                break;
+            }
+            if !(s.leak.proc_time < t - 1e-6) {
+                break;
+            }
+            s = s.leak.turn(m, work, t);
+        }
+        s
     }
-    let s = turns(l, m, work, t);
-    let (leak, total) = reached(s, m, work, t);
-    closed(leak, m, total, t, slots, k)
+
+    // Behind the turns: MBn's peak, its overflow and its busy stretch at t, where total has arrived.
+    fn closed(self, m: VideoLayout, total: f64, t: f64, slots: &mut Slots, k: usize) -> Leak
+        requires { k ≤ 64 }
+        ensures { ClosedBy m self total t k slots.old slots.new result }
+    {
+        let fullness = total - self.flow.transferred;
+        slots.note_kind_if(
+            fullness > m.mb_size + 1.0,
+            k,
+            EventKind::Overflow,
+            fullness,
+            0.0,
+        );
+        Leak {
+            longest_busy: self.longest_until(t),
+            mb_peak: max(self.mb_peak, fullness),
+            proc_time: max(self.proc_time, t),
+            ..self
+        }
+    }
+
+    // The leak up to t; the first call only sets the clock.
+    pub(crate) fn leak_until(
+        self,
+        m: VideoLayout,
+        work: &[f64],
+        t: f64,
+        slots: &mut Slots,
+        k: usize,
+    ) -> Leak
+        requires leak_lies { LeakLies work.now m self }
+        requires k_bound { k ≤ 64 }
+        ensures { LeaksTo work.now m t k slots.old slots.new (leak_of work.now m self) result }
+    {
+        if self.proc_time == f64::NEG_INFINITY {
+            return Leak {
+                proc_time: t,
+                ..self
+            };
+        }
+        let s = self.turns(m, work, t);
+        let (leak, total) = s.reached(m, work, t);
+        leak.closed(m, total, t, slots, k)
+    }
 }

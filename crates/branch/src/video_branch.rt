@@ -6,7 +6,7 @@ ghost use Rattle.branch.specs.VideoStep.{add_run, deliver as deliverOf};
 ghost use Rattle.branch.specs.VideoInWork.{rates_of, video_of, VideoLies, RemovedBy, AdvancedTo, chain_of, Apart, VideoFedTo, QueuedTo, MarkedTo, layout_of, ready as readyOf, SteppedTo, StepOf, FinishOf, CloseOf, new_branch};
 
 use crate::inflow::CumulativeIn;
-use crate::leak::{Flow, Leak, VideoLayout, leak_until};
+use crate::leak::{Flow, Leak, VideoLayout};
 use crate::queue::{Place, Ring};
 use crate::units::{Units, note_removal};
 use crate::{AccessUnit, Delivered, QueueFull, Run};
@@ -131,7 +131,7 @@ impl VideoBranch {
                 Some(u) => u.decode_time,
                 None => frontier,
             };
-            self.leak = leak_until(self.leak, m, work, to, slots, k);
+            self.leak = self.leak.leak_until(m, work, to, slots, k);
             let Some(u) = due else {
                 return;
             };

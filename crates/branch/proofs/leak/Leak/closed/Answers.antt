@@ -1,9 +1,9 @@
--- `branch::leak::closed` meets its contract. Assumes nothing.
+-- `branch::leak::Leak::closed` meets its contract. Assumes nothing.
 use mathlib.Core.Path.{sym, ◌∙◌}
 use Rattle.events.specs.Event.{overflow, kind_of, figure_of, decode_of}
 use Rattle.events.proofs.Noted.{noted_all_when_lem}
 use Rattle.branch.proofs.VideoTurns.{closed_state_lem}
-use Rattle.branch.proofs.leak.closed.Goals as goal
+use Rattle.branch.proofs.leak.Leak.closed.Goals as goal
 
 pub returns : goal.returns
 unfolding kind_of figure_of decode_of

@@ -1,6 +1,6 @@
--- `branch::leak::paced` meets its contract. Assumes nothing.
+-- `branch::leak::Leak::paced` meets its contract. Assumes nothing.
 use Rattle.branch.proofs.VideoTurns.{paced_fills, paced_unfound, paced_through}
-use Rattle.branch.proofs.leak.paced.Goals as goal
+use Rattle.branch.proofs.leak.Leak.paced.Goals as goal
 
 pub returns-in-Some : goal.returns-in-Some
 returns-in-Some c =

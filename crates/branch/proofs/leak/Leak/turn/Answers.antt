@@ -1,8 +1,8 @@
--- `branch::leak::turn` meets its contract. Assumes nothing.
+-- `branch::leak::Leak::turn` meets its contract. Assumes nothing.
 use Rattle.branch.specs.VideoBranch.{eb_room}
 use Rattle.branch.specs.VideoInWork.{flow_of}
 use Rattle.branch.proofs.VideoTurns.{stalled_turn, paced_turn, backlogged_turn}
-use Rattle.branch.proofs.leak.turn.Goals as goal
+use Rattle.branch.proofs.leak.Leak.turn.Goals as goal
 
 pub returns-then-room : goal.returns-then-room
 unfolding eb_room flow_of

@@ -1,10 +1,10 @@
--- `branch::leak::turns` meets its contract. Assumes nothing.
+-- `branch::leak::Leak::turns` meets its contract. Assumes nothing.
 use Prim.Native.Nat.{◌+◌, ◌-◌}
 use mathlib.Core.Path.{◌≡◌, sym, ◌∙◌}
 use Rattle.branch.specs.VideoInWork.{leak_of}
 use Rattle.branch.proofs.VideoTurns.{turns_start, turns_more, turns_done, turns_stop, turns_end}
 use native.Mathlib.Omega.{arith}
-use Rattle.branch.proofs.leak.turns.Goals as goal
+use Rattle.branch.proofs.leak.Leak.turns.Goals as goal
 
 pub loop-init : goal.loop-init
 loop-init c = turns_start _ _ _ _ c.requires
