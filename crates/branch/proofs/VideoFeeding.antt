@@ -19,17 +19,17 @@ use Rattle.branch.specs.declared.video_branch.VideoBranch.{VideoBranch}
 use Rattle.branch.specs.declared.leak.Leak.{Leak as LeakState}
 use Rattle.branch.specs.declared.QueueFull.{QueueFull}
 use Rattle.branch.specs.declared.units.Units.{Units}
-use Rattle.branch.specs.Queue.{Lies, SameOutside, floats_at, entries, PushedTo}
+use Rattle.branch.specs.Queue.{SameOutside, floats_at, entries, PushedTo}
 use Rattle.branch.specs.CumulativeIn.{Inflow, run_refused}
 use Rattle.branch.specs.InflowInWork.{run_of, inflow_of, RunPushedTo}
 use Rattle.branch.specs.Units.{OpenAu, Queued, close_units, open_units}
-use Rattle.branch.specs.UnitsInWork.{unit_of, unit_at, waiting_of, grown_units, UnitsTo}
+use Rattle.branch.specs.UnitsInWork.{unit_at, waiting_of, grown_units, UnitsTo}
 use Rattle.branch.specs.VideoBranch.{pushed_leak, push_video}
 use Rattle.branch.specs.VideoStep.{VideoChain, VideoFed, refused, fed, and_then, waiting, with_waiting, queued_to, close_au, open_unit, add_run}
 use Rattle.branch.specs.VideoInWork.{mark_of, mark_at, flow_of, leak_of, LeakLies, video_of, VideoLies, chain_of, Apart, VideoFedTo, queued_run, QueuedTo, marked_leak, marked_run, MarkedTo}
 use Rattle.branch.proofs.Rings.{kept, count_entries, floats_local, lies_kept, outside_refl, outside_then, outside_wider, push_adds, push_lies, push_outside, push_refused}
 use Rattle.branch.proofs.HeaderMarks.{mark_local}
-use Rattle.branch.proofs.UnitQueues.{open_grown}
+use Rattle.branch.proofs.UnitQueues.{units_kept, open_grown}
 
 -- ---- a change of the work elsewhere
 
@@ -38,11 +38,6 @@ leak_kept : {lo hi : ℕ} (w v : List Float) (m : VideoLayout) (l : LeakState) �
 unfolding leak_of flow_of
 leak_kept w v m l a o h k =
     rw (kept 3 (λ u i. run_of (floats_at 3 u i)) (floats_local 3 run_of) m.runs l.mb_in.runs a.runs o h, kept 2 mark_at mark_local m.marks l.flow.marks a.marks o k)
-
-units_kept : {lo hi : ℕ} (w v : List Float) (m : VideoLayout) (q : Ring) → Lies 3 w m.units q → SameOutside lo hi w v → (m.units.base + 3 * m.units.depth ≤ lo) ⊎ (hi ≤ m.units.base)
-    → entries 3 unit_at v m.units q ≡ entries 3 unit_at w m.units q
-unfolding unit_at
-units_kept w v m q a o h = kept 3 (λ u i. unit_of (floats_at 3 u i)) (floats_local 3 unit_of) m.units q a o h
 
 -- ---- a branch that is left as it is
 
@@ -132,7 +127,7 @@ module _ (w v : List Float) (m : VideoLayout) (b : VideoBranch) (run : Run) (met
   marks_same = let u = a.units in let k = a.marks in kept 2 mark_at mark_local m.marks b.leak.flow.marks l.leak.marks p.outside (inr (omega arith))
 
   units_same : entries 3 unit_at v m.units b.units.pending ≡ entries 3 unit_at w m.units b.units.pending
-  units_same = units_kept w v m b.units.pending l.pending p.outside (inr a.units)
+  units_same = units_kept v m.units b.units.pending l.pending p.outside (inr a.units)
 
   pub run_queued : r ≡ Ok tt → QueuedTo w m b run metric (Ok tt) (with_runs (grown_units b.units metric) (b.queued ⊕ run.bytes)) v
   unfolding chain_of video_of leak_of flow_of queued_run pushed_leak
@@ -207,7 +202,7 @@ module _ (w v : List Float) (m : VideoLayout) (b : VideoBranch) (bytes : Float) 
         lies = record { leak = record { runs = lies_kept o l.leak.runs; marks = push_lies l.leak.marks p }; pending = lies_kept o l.pending };
         outside = o;
         units = refl;
-        state = rw (runs, marks_added f, units_kept w v m b.units.pending l.pending o (inl y));
+        state = rw (runs, marks_added f, units_kept v m.units b.units.pending l.pending o (inl y));
       }
 
 -- ---- the runs of a packet

@@ -7,7 +7,7 @@ ghost use Rattle.branch.specs.InflowInWork.{run_of, inflow_of, runs_of, SettledT
 use crate::queue::{Place, Ring};
 use crate::{QueueFull, Run};
 
-// The runs still tracked, and the bytes of those that are spent.
+// The runs still tracked, and the bytes of those that are spent. Place and work are handed on beside it (see Place).
 #[derive(Clone, Copy)]
 pub struct CumulativeIn {
     pub runs: Ring,

@@ -12,7 +12,7 @@ use crate::{AccessUnit, Delivered, QueueFull};
 use events::{EventKind, Slots};
 
 // The units that are pending, in a ring of the work, and the one whose bytes still arrive; and what the removals tell. The open unit's
-// decode time is -infinity where there is none, so that states hold floats alone.
+// decode time is -infinity where there is none, so that states hold floats alone. Place and work are handed on beside it (see Place).
 #[derive(Clone, Copy)]
 pub struct Units {
     pub pending: Ring,
