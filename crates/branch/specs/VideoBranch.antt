@@ -7,7 +7,8 @@ use Rattle.ieee.specs.MaxMin.{max_of, min_of}
 use Rattle.branch.specs.declared.Run.{Run}
 use Rattle.branch.specs.declared.AccessUnit.{AccessUnit}
 use Rattle.branch.specs.declared.HeaderMark.{HeaderMark}
-use Rattle.events.specs.Event.{Event, overflow, underflow, delay, mb_busy, when}
+use Rattle.events.specs.Event.{Event, overflow, mb_busy, when}
+use Rattle.branch.specs.Units.{unit_events}
 use Rattle.branch.specs.CumulativeIn.{Inflow, settle, arrived_by, push_run, time_of_cumulative}
 
 -- Rbxn in bytes a second, MBSn and EBSn in bytes
@@ -272,9 +273,7 @@ module _ (v : Video) (u : AccessUnit) where
       }
 
   unfoldable pub remove_events : List Event
-  remove_events =
-      when (lt (v.leak.flow.eb_in ⊕ 1f) required) (underflow u.decode_time (required ⊖ v.leak.flow.eb_in))
-      ++ when (lt (1f ⊕ 1e-6f) age) (delay u.decode_time age)
+  remove_events = unit_events v.leak.flow.eb_in required u
 
 -- the leak up to the frontier, each unit with a decode time up to it removed on the way, in queue order
 unfoldable pub advance_from : VideoRates → Float → List AccessUnit → Video → Advanced

@@ -164,7 +164,7 @@ pub record VideoLies (w : List Float) (m : VideoLayout) (b : VideoBranch) : Type
   pub leak : LeakLies w m b.leak
   pub pending : Lies 3 w m.units b.units.pending
 
--- how far the leak goes on before that
+-- how far the leak goes on: to the decode time of the unit that is due, and else to the frontier
 abbrev pub until : Option AccessUnit → Float → Float
 until (Some u) frontier = u.decode_time
 until None frontier = frontier
