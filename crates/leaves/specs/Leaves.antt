@@ -27,6 +27,10 @@ done ws = record { number = 0; words = ws }
 abbrev pub refused : Refusal → Leaf
 refused x = record { number = (code_of x).number; words = [] }
 
+unfoldable pub told_leaf : Result (List ℕ) Refusal → Leaf
+told_leaf (Ok ws) = done ws
+told_leaf (Err x) = refused x
+
 -- the number, and the slice before and after
 pub record Told (a : Leaf) (number : ℕ) (out₀ out₁ : List ℕ) : Type 0 where
   pub is : number ≡ a.number

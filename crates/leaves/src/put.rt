@@ -1,7 +1,7 @@
 // The words or figures of an answer, stored from the start of a slice that has room for them.
 ghost use Rattle.std.specs.Prelude.{◌≡◌, ◌≤◌};
 ghost use Rattle.error.specs.Code.{code_of};
-ghost use Rattle.leaves.specs.Leaves.{stored, flag_word, plus_one, word_of};
+ghost use Rattle.leaves.specs.Leaves.{Told, told_leaf, stored, flag_word, plus_one, word_of};
 
 use error::Refusal;
 
@@ -19,6 +19,20 @@ pub(crate) fn number(refusal: Refusal) -> u64
     ensures { result ≡ (code_of refusal).number }
 {
     u64::from(refusal.code().number)
+}
+
+// Number 0 and the words, or the number of a refusal and no word.
+#[tactic(auto, using(crate::proofs::Stored::stored_none), unfolding(crate::specs::Leaves::told_leaf))]
+pub(crate) fn tell<const N: usize>(told: Result<[u64; N], Refusal>, out: &mut [u64]) -> u64
+    ensures { Told (told_leaf told.entry) result out.old out.new }
+{
+    match told {
+        Ok(words) => {
+            put(&words, out);
+            0
+        }
+        Err(refusal) => number(refusal),
+    }
 }
 
 // 1 or 0.
