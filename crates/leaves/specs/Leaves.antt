@@ -1,6 +1,7 @@
 -- What the functions behind C names answer, from the definition of each function under them: a number, and words that are stored
 -- from the start of a lent slice.
 use Rattle.std.specs.Prelude.{◌≡◌, ℕ, ◌+◌, ◌-◌, ◌%◌, ◌^◌, Bool, cond, List, [], ◌∷◌, ◌++◌, length, drop, ℤ, pos, negsuc, ◌==◌, nat_le, slice_index_or, Float, Option, Some, None, Result, Ok, Err}
+use Rattle.std.specs.Int.{from_bool}
 use Rattle.std.specs.Float.{nan}
 use Rattle.error.specs.declared.Refusal.{Refusal}
 use Rattle.error.specs.Code.{code_of}
@@ -36,8 +37,9 @@ pub record Told (a : Leaf) (number : ℕ) (out₀ out₁ : List ℕ) : Type 0 wh
   pub is : number ≡ a.number
   pub holds : out₁ ≡ stored a.words out₀
 
-unfoldable pub flag_word : Bool → ℕ
-flag_word b = cond b 1 0
+-- 1 or 0
+abbrev pub flag_word : Bool → ℕ
+flag_word b = from_bool b
 
 -- the word of a number that is there, where 0 tells that there is none
 unfoldable pub plus_one : ℕ → ℕ

@@ -30,6 +30,7 @@ pub extern "C" fn leaf_extend_near(raw: u64, reference: u64, out: &mut [u64]) ->
     tell(clock::extend_near(raw, reference).map(one), out)
 }
 
+// Two clocks are two words for C.
 // Ruled out: the size of a negative step without its sign; `b` - `a`.
 #[unsafe(no_mangle)]
 #[tactic(auto, unfolding(crate::specs::Leaves::delta_leaf, crate::specs::Leaves::told_leaf))]

@@ -5,7 +5,7 @@ ghost use Rattle.leaves.specs.Leaves.{Told};
 ghost use Rattle.leaves.specs.Packet.{extension_words, present_extension, field_flags, field_words, present_field, packet_words, parse_leaf};
 
 use crate::parts::{clock_words, countdown_word, ltw_words, private_words, splice_words};
-use crate::put::{flag, put, word_of};
+use crate::put::{put, word_of};
 use packet::{AdaptationField, AdaptationFieldExtension, TsError, TsPacket};
 
 #[tactic(auto, unfolding(crate::specs::Packet::present_extension))]
@@ -14,9 +14,9 @@ fn present_extension(e: AdaptationFieldExtension) -> [u64; 8]
 {
     let ltw = ltw_words(e.ltw);
     let splice = splice_words(e.seamless_splice);
-    let flags = 4 * flag(e.ltw.is_some())
-        + 2 * flag(e.piecewise_rate.is_some())
-        + flag(e.seamless_splice.is_some());
+    let flags = 4 * u64::from(e.ltw.is_some())
+        + 2 * u64::from(e.piecewise_rate.is_some())
+        + u64::from(e.seamless_splice.is_some());
     [
         1,
         u64::from(e.length),
@@ -44,14 +44,14 @@ fn extension_words(extension: Option<AdaptationFieldExtension>) -> [u64; 8]
 fn field_flags(f: AdaptationField) -> u64
     ensures { result ≡ field_flags f }
 {
-    128 * flag(f.discontinuity_indicator)
-        + 64 * flag(f.random_access_indicator)
-        + 32 * flag(f.elementary_stream_priority_indicator)
-        + 16 * flag(f.pcr.is_some())
-        + 8 * flag(f.opcr.is_some())
-        + 4 * flag(f.splice_countdown.is_some())
-        + 2 * flag(f.transport_private_data.is_some())
-        + flag(f.adaptation_field_extension.is_some())
+    128 * u64::from(f.discontinuity_indicator)
+        + 64 * u64::from(f.random_access_indicator)
+        + 32 * u64::from(f.elementary_stream_priority_indicator)
+        + 16 * u64::from(f.pcr.is_some())
+        + 8 * u64::from(f.opcr.is_some())
+        + 4 * u64::from(f.splice_countdown.is_some())
+        + 2 * u64::from(f.transport_private_data.is_some())
+        + u64::from(f.adaptation_field_extension.is_some())
 }
 
 #[tactic(auto, unfolding(crate::specs::Packet::present_field), using(crate::proofs::Stored::filled_behind))]
@@ -95,9 +95,9 @@ fn packet_words(p: TsPacket) -> [u64; 26]
     let mut words = [0; 26];
     words[..8].copy_from_slice(&[
         u64::from(p.pid),
-        flag(p.payload_unit_start),
-        flag(p.transport_error),
-        flag(p.transport_priority),
+        u64::from(p.payload_unit_start),
+        u64::from(p.transport_error),
+        u64::from(p.transport_priority),
         u64::from(p.transport_scrambling_control),
         u64::from(p.continuity_counter),
         p.payload_start as u64,

@@ -2,7 +2,7 @@
 ghost use Rattle.std.specs.Prelude.{◌≡◌};
 ghost use Rattle.leaves.specs.Packet.{clock_words, countdown_word, private_words, ltw_words, splice_words};
 
-use crate::put::{flag, plus_one};
+use crate::put::plus_one;
 use packet::{ClockReference, Ltw, PrivateData, SeamlessSplice};
 
 #[tactic(auto, unfolding(crate::specs::Packet::clock_words))]
@@ -42,7 +42,10 @@ pub(crate) fn ltw_words(ltw: Option<Ltw>) -> (u64, u64)
     ensures { result ≡ ltw_words ltw }
 {
     match ltw {
-        Some(ltw) => (plus_one(flag(ltw.valid)), plus_one(u64::from(ltw.offset))),
+        Some(ltw) => (
+            plus_one(u64::from(ltw.valid)),
+            plus_one(u64::from(ltw.offset)),
+        ),
         None => (0, 0),
     }
 }

@@ -1,7 +1,7 @@
 // The words or figures of an answer, stored from the start of a slice that has room for them.
-ghost use Rattle.std.specs.Prelude.{◌≡◌, ◌≤◌};
+ghost use Rattle.std.specs.Prelude.{◌≡◌};
 ghost use Rattle.error.specs.Code.{code_of};
-ghost use Rattle.leaves.specs.Leaves.{Told, told_leaf, stored, flag_word, plus_one, word_of};
+ghost use Rattle.leaves.specs.Leaves.{Told, told_leaf, stored, plus_one, word_of};
 
 use error::Refusal;
 
@@ -33,14 +33,6 @@ pub(crate) fn tell<const N: usize>(told: Result<[u64; N], Refusal>, out: &mut [u
         }
         Err(refusal) => number(refusal),
     }
-}
-
-// 1 or 0.
-#[tactic(auto, unfolding(crate::specs::Leaves::flag_word))]
-pub(crate) fn flag(on: bool) -> u64
-    ensures { (result ≡ flag_word on) × (result ≤ 1) }
-{
-    u64::from(on)
 }
 
 // A number that is there is told as the one above it, as 0 tells that there is none.

@@ -3,7 +3,7 @@
 ghost use Rattle.std.specs.Prelude.{◌≡◌, ◌+◌, ◌%◌, ◌≤◌, length};
 ghost use Rattle.leaves.specs.Scanner.{stamp_in, scanner_at, scanner_words, run_words, Feeds};
 
-use crate::put::{flag, put, word_of};
+use crate::put::{put, word_of};
 use scanner::{PesHeader, PesScanner, Runs, StampBytes};
 
 // The words of a state. They stay a slice: as an array of 15 they would be another list than the definition reads.
@@ -55,7 +55,7 @@ fn scanner_words(s: PesScanner) -> [u64; STATE_WORDS]
     let h = s.header;
     [
         u64::from(s.count),
-        flag(s.started),
+        u64::from(s.started),
         u64::from(h.stream_id),
         u64::from(h.flags),
         u64::from(h.header_data_length),

@@ -4,14 +4,12 @@ ghost use Rattle.pes.specs.StreamId.{has_optional_header};
 ghost use Rattle.packet.specs.Layout.{layout_of};
 ghost use Rattle.leaves.specs.Leaves.{flag_word, size_found};
 
-use crate::put::flag;
-
 // Ruled out: 1 for an id without the header; a word other than 0 and 1.
 #[unsafe(no_mangle)]
 pub extern "C" fn leaf_optional_header(id: u8) -> u64
     ensures { result ≡ flag_word (has_optional_header id) }
 {
-    flag(pes::has_optional_pes_header(id))
+    u64::from(pes::has_optional_pes_header(id))
 }
 
 // Ruled out: a size for bytes without a layout; the sync byte's place in place of the size.
