@@ -64,11 +64,11 @@ module _ (w : List Float) (p : MainModel) (b : MainBranch) (k : ℕ) (e : ready 
   pub ready_room : length w ≤ 1152921504606846976 → p.base + 6 * p.depth ≤ 9223372036854775807
   ready_room h = let r = (ready_lies w p b k e).lies.pending.room in omega arith
 
-  pub ready_bound : length w ≤ 1152921504606846976 → (k < 64) × (b.units.access_units + b.units.pending.count ≤ 18446744073709551615)
+  pub ready_bound : length w ≤ 1152921504606846976 → b.units.access_units + b.units.pending.count ≤ 18446744073709551615
   ready_bound h =
       let r = ready_lies w p b k e in
       let o = r.units in
-      (r.slots, omega (arith, r.lies.pending.some, r.lies.pending.room))
+      omega (arith, r.lies.pending.some, r.lies.pending.room)
 
 -- the other way: what a caller shows before a step
 pub lies_ready : (w : List Float) (p : MainModel) (b : MainBranch) (k : ℕ) → Ready w p b k → ready (length w) p b k ≡ true
@@ -136,13 +136,13 @@ module _ (w : List Float) (p : MainModel) (b : MainBranch) (k : ℕ) (e : ready 
   closed_lies = closed_to.lies
 
   -- the count of units has room for a removal of every pending one
-  pub closed_bound : length w ≤ 1152921504606846976 → (k < 64) × (q.access_units + q.pending.count ≤ 18446744073709551615)
+  pub closed_bound : length w ≤ 1152921504606846976 → q.access_units + q.pending.count ≤ 18446744073709551615
   closed_bound h =
       let a = ready_lies w p b k e in
       let n = cl.count in
       let o = a.units in
       let i : q.pending.count ≤ p.depth = rw at at cl.lies.some in
-      (a.slots, omega (arith, a.lies.pending.room))
+      omega (arith, a.lies.pending.room)
 
   -- every removal, and the look at the end
   pub finish_made : (m z : MainBranch) (s x y : Slots) → r ≡ Ok tt → DrainedTo u p k s (drain p.buffer_size +∞ (main_of u p closed)) m x →

@@ -314,7 +314,6 @@ impl Leak {
 
     // Behind the turns: MBn's peak, its overflow and its busy stretch at t, where total has arrived.
     fn closed(self, m: VideoLayout, total: f64, t: f64, slots: &mut Slots, k: usize) -> Leak
-        requires { k ≤ 64 }
         ensures { ClosedBy m self total t k slots.old slots.new result }
     {
         let fullness = total - self.flow.transferred;
@@ -343,7 +342,6 @@ impl Leak {
         k: usize,
     ) -> Leak
         requires leak_lies { LeakLies work.now m self }
-        requires k_bound { k ≤ 64 }
         ensures { LeaksTo work.now m t k slots.old slots.new (leak_of work.now m self) result }
     {
         if self.proc_time == f64::NEG_INFINITY {

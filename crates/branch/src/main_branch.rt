@@ -98,7 +98,7 @@ impl MainBranch {
     fn remove(&mut self, p: MainModel, work: &[f64], u: AccessUnit, slots: &mut Slots, k: usize)
         requires branch_lies { BranchLies work.now p self.old }
         requires pending { 0 < self.old.units.pending.count }
-        requires k_bound { (k < 64) × (self.old.units.access_units < 18446744073709551615) }
+        requires count_bound { self.old.units.access_units < 18446744073709551615 }
         ensures { RemovedTo work.now p self.old u k slots.old self.new slots.new }
     {
         let got = self.inflow.arrived_by(runs_place(p), work, u.decode_time);
@@ -123,7 +123,7 @@ impl MainBranch {
     #[tactic(auto, using(crate::proofs::Removals::drain_stops, crate::proofs::Removals::drain_ends))]
     fn drain(&mut self, p: MainModel, work: &[f64], frontier: f64, slots: &mut Slots, k: usize)
         requires branch_lies { BranchLies work.now p self.old }
-        requires k_bound { (k < 64) × (self.old.units.access_units + self.old.units.pending.count ≤ 18446744073709551615) }
+        requires count_bound { self.old.units.access_units + self.old.units.pending.count ≤ 18446744073709551615 }
         ensures { DrainedTo work.now p k slots.old (drainDef p.buffer_size frontier (main_of work.now p self.old)) self.new slots.new }
     {
         while let Some(u) = self.units.first(units_place(p), work) {
@@ -137,7 +137,6 @@ impl MainBranch {
     // The fullness of all that arrives.
     fn look_at_end(&mut self, p: MainModel, work: &[f64], slots: &mut Slots, k: usize)
         requires branch_lies { BranchLies work.now p self.old }
-        requires k_bound { k < 64 }
         ensures { DrainedTo work.now p k slots.old (look_at_end p.buffer_size (main_of work.now p self.old)) self.new slots.new }
     {
         let fullness = self.inflow.final_total(runs_place(p), work) - self.removed;

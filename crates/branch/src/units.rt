@@ -47,7 +47,6 @@ fn entry_of(u: AccessUnit) -> [f64; 3]
 // What a removal tells of its unit: underflow and delay.
 #[tactic(auto, using(crate::proofs::UnitQueues::noted_removal))]
 pub(crate) fn note_removal(arrived: f64, required: f64, u: AccessUnit, slots: &mut Slots, k: usize)
-    requires { k ≤ 64 }
     ensures { slots.new ≡ noted_all k (unit_events arrived required u) slots.old }
 {
     let at = u.decode_time;

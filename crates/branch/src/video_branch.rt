@@ -109,7 +109,7 @@ impl VideoBranch {
     // The first pending unit, u, is removed from EBn.
     fn remove(&mut self, m: VideoLayout, u: AccessUnit, slots: &mut Slots, k: usize)
         requires head_lt_depth { (self.old.units.pending.head < m.units.depth) × (0 < self.old.units.pending.count) }
-        requires k_bound { (k ≤ 64) × (self.old.units.access_units < 18446744073709551615) }
+        requires count_bound { self.old.units.access_units < 18446744073709551615 }
         ensures { RemovedBy m self.old u k slots.old slots.new self.new }
     {
         let required = self.eb_required + u.bytes;
@@ -122,7 +122,7 @@ impl VideoBranch {
     // The leak up to the frontier, with each unit removed that is due by then.
     fn advance(&mut self, m: VideoLayout, work: &[f64], frontier: f64, slots: &mut Slots, k: usize)
         requires video_lies { VideoLies work.now m self.old }
-        requires k_bound { (k ≤ 64) × (self.old.units.access_units + self.old.units.pending.count ≤ 18446744073709551615) }
+        requires count_bound { self.old.units.access_units + self.old.units.pending.count ≤ 18446744073709551615 }
         ensures { AdvancedTo work.now m k self.old.units.open_au slots.old (advanceOf (rates_of m) frontier (video_of work.now m self.old)) self.new slots.new }
     {
         loop {

@@ -13,8 +13,8 @@ pub drain-requires-clause-branch_lies : goal.drain-requires-clause-branch_lies
 drain-requires-clause-branch_lies c =
     closed_lies _ _ _ _ (sym c.ready.ensures ∙ c.if-not-ready.false) _ c.units_place.ensures _ _ _ c.close.ensures
 
-pub drain-requires-clause-k_bound : goal.drain-requires-clause-k_bound
-drain-requires-clause-k_bound c =
+pub drain-requires-clause-count_bound : goal.drain-requires-clause-count_bound
+drain-requires-clause-count_bound c =
     closed_bound c.args.work.now _ _ _ (sym c.ready.ensures ∙ c.if-not-ready.false) _ c.units_place.ensures _ _ _ c.close.ensures (omega arith)
 
 pub returns : goal.returns
