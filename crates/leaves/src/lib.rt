@@ -1,6 +1,5 @@
-// The functions under the replay, each behind C names for the comparison with the Rust (`leaves_c` has them as a static
-// library): numbers, and words stored from the start of a slice that the caller lends. A slice without room for them stays
-// as it was.
+// The functions under the replay, each behind C names, as a static library for the comparison with the Rust: numbers, and words
+// stored from the start of a slice that the caller lends. A slice without room for them stays as it was.
 #![tactic(auto)]
 
 pub mod clock_leaf;
