@@ -157,11 +157,11 @@ fn violations(rt: &impl Print) -> io::Result<()> {
 // What no replay gives: infinities, a not-a-number, and more records in use than there are.
 fn outside(rt: &impl Print) -> io::Result<()> {
     let mut report = TStdReport::new();
-    report.modelled_seconds = -1.0 / 0.0;
+    report.modelled_seconds = f64::NEG_INFINITY;
     let mut unused = TStdChainStats::new(7);
-    unused.max_delay_seconds = 0.0 / 0.0;
+    unused.max_delay_seconds = f64::NAN;
     let mut rows = [unused; 9];
-    rows[8].max_delay_seconds = 1.0 / 0.0;
+    rows[8].max_delay_seconds = f64::INFINITY;
     show(rt, accepted(report, Figures { rows, count: 10 }))
 }
 

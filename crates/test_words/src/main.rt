@@ -30,10 +30,7 @@ fn print_stream(rt: &impl Print, stream: TStdStream) -> io::Result<()> {
 
 // The answer's word: 0 where the profile is read.
 fn word_of(profile: &[u64]) -> u64 {
-    match words::profile_of(profile) {
-        Ok(_) => 0,
-        Err(refusal) => words::answer_word(refusal.code()),
-    }
+    words::answer_word(Code::told(words::profile_of(profile)))
 }
 
 fn print_profile(rt: &impl Print, profile: &[u64]) -> io::Result<()> {
