@@ -149,7 +149,7 @@ impl Text<'_> {
         }
     }
 
-    #[tactic(auto, unfolding(crate::specs::Text::each, crate::specs::Text::chain_lines), using(crate::proofs::Written::nothing, crate::proofs::Lines::all_lines))]
+    #[tactic(auto, unfolding(crate::specs::Text::each), using(crate::proofs::Written::nothing))]
     pub(crate) fn chain_lines(&mut self, figures: Figures)
         ensures { Appends 1188 (chain_lines figures) self.old self.new }
     {

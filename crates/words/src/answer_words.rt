@@ -20,7 +20,6 @@ pub fn answer_word(code: Code) -> u64
 }
 
 // Ruled out: a row or report changed by a refusal; the report of an accepted recording left as it was.
-#[tactic(auto, unfolding(crate::specs::Answer::row_told, crate::specs::Answer::report_told))]
 pub fn write_answer(answer: Answer, row: &mut [u64], report: &mut [u64]) -> u64
     ensures { Told answer result row.old row.new report.old report.new }
 {
