@@ -1,5 +1,5 @@
 -- A chain of the definition as pass 2 holds it: the new one, a step of it, what a change elsewhere in the work leaves, and its figures.
-use Rattle.std.proofs.Common.{◌≡◌, ℕ, suc, ◌+◌, ◌*◌, ◌^◌, ◌<◌, ◌≤◌, Bool, true, ◌⊎◌, List, length, refl, ap, ◌∙◌, inl, inr, ⊎_elim, arith}
+use Rattle.std.proofs.Common.{◌≡◌, ℕ, suc, ◌+◌, ◌*◌, ◌^◌, ◌<◌, ◌≤◌, Bool, ◌⊎◌, List, length, refl, ap, ◌∙◌, inl, inr, ⊎_elim, arith}
 use lib.Ieee.{Float, to_unsigned}
 use Rattle.ieee.specs.Binary64.{◌⊘◌, 8f}
 use Rattle.fifo.specs.FluidFifo.{new}
@@ -14,8 +14,8 @@ use Rattle.branch.specs.declared.video_branch.VideoBranch.{VideoBranch}
 use Rattle.branch.specs.declared.video_branch.Stepped.{Stepped as VideoStepped}
 use Rattle.branch.specs.Queue.{SameOutside, floats_at}
 use Rattle.branch.specs.InflowInWork.{run_of}
-use Rattle.branch.specs.MainBranch.{new_main, main_step}
-use Rattle.branch.specs.VideoStep.{new_video, video_step}
+use Rattle.branch.specs.MainBranch.{new_main}
+use Rattle.branch.specs.VideoStep.{new_video}
 use Rattle.branch.specs.MainInWork.{runs_place, units_place, unit_of, main_of, BranchLies}
 use Rattle.branch.specs.MainInWork as main-work
 use Rattle.branch.specs.VideoInWork.{mark_at, unit_at, flow_of, leak_of, video_of, VideoLies, chain_of, layout_of, rates_of}
@@ -101,14 +101,6 @@ unfolding new_chain
 new_is w s base depth t d r e = chain_of_lem e (new_by w s s.model.branch base depth refl d r)
 
 -- ---- a step
-
--- the end does not ask what is delivered, and when
-pub end_any : (m : TStdBranch) (depth : ℕ) (d d' : Delivered) (time time' : Float) (y : Branch) → step_branch m depth d true time y ≡ step_branch m depth d' true time' y
-unfolding step_branch main_step video_step
-end_any (TStdBranch.Main size) depth d d' time time' (main b) = refl
-end_any (TStdBranch.Main size) depth d d' time time' (video b) = refl
-end_any (TStdBranch.Video rbx mb eb) depth d d' time time' (main b) = refl
-end_any (TStdBranch.Video rbx mb eb) depth d d' time time' (video b) = refl
 
 record BranchStepIs (w u : List Float) (m : TStdBranch) (base depth k slot : ℕ) (sl sl' : Slots) (st : Stepped) (isFull : Bool) (b : MainBranch) (v : VideoBranch) : Type 0 where
   pub full : isFull ≡ st.full

@@ -43,7 +43,7 @@ use Rattle.tstd.specs.Clear.{zeroed}
 use Rattle.tstd.specs.Figures.{rows_from, system_rows}
 use Rattle.tstd.specs.Rest.{from_packet, finished}
 use Rattle.tstd.specs.Run.{Pass, pass_of, clock_of, Ready, whole, RanTo, Finished}
-use Rattle.tstd.specs.Core.{answer_for, keeps_work, outcome_of, left_of, answered, Replayed, Ended, Fitting, ReplayedAt, queue_full, last_slots, report_in, accepted_of}
+use Rattle.tstd.specs.Core.{answer_for, keeps_work, outcome_of, left_of, answered, Replayed, Ended, Fitting, ReplayedAt, last_slots, report_in, accepted_of}
 use Rattle.tstd.proofs.Rows.{rows_are}
 use Rattle.tstd.proofs.Cleared.{zeroed_behind, zeroed_outside}
 use Rattle.tstd.proofs.Sound.{report_lines}
@@ -205,33 +205,32 @@ module _ (c : TStdConfig) (l : List ℕ) (y : TsPacketLayout) (times : List Floa
           rw (b, s, facts_are, same_count, z) refl
 
       -- ---- behind pass 2
-      module _ {ran : RanState} {times'' : List Float} (to : RanTo pass ran times'') where
+      module _ {result : Result RanState Refusal} {times'' : List Float} (to : RanTo pass result times'') where
         work_kept : zeroed 0f (needed_of c).times times'' ≡ zeroed 0f (needed_of c).times times
         unfolding needed_of
         work_kept = zeroed_outside (outside_wider (omega arith) (omega arith) to.outside) ∙ times_kept
 
-        pub queue_refused : {a : Result Answer Refusal} {x : Refusal} → ran.full ≡ true → x ≡ queue_full c ran count → a ≡ Err x
-            → ReplayedAt c l y times places a times'' places'
+        pub queue_refused : {a : Result Answer Refusal} {x : Refusal} → result ≡ Err x → a ≡ Err x → ReplayedAt c l y times places a times'' places'
         unfolding answered
-        queue_refused f p r = record { outcome = rw (runs_at, (to.refused f).1 (n + 1), ← p) r; times_are = work_kept; places_are = places_kept }
+        queue_refused {a} {x} f p = record { outcome = rw (runs_at, to.refused x f (n + 1)) p; times_are = work_kept; places_are = places_kept }
 
-        report_is : (f : Finished pass to.ready ran times'') → report_in c ran (n + 1) ≡ report_of c (n + 1) f.state
+        report_is : (ran : RanState) (f : Finished pass to.ready ran times'') → report_in c ran (n + 1) ≡ report_of c (n + 1) f.state
         unfolding report_in report_of
-        report_is f = rw (report_lines pass to.ready fit.within ran f.state f.reached f.at.system_tb f.at.slots, f.at.first, f.at.last) refl
+        report_is ran f = rw (report_lines pass to.ready fit.within ran f.state f.reached f.at.system_tb f.at.slots, f.at.first, f.at.last) refl
 
-        accepted_is : (f : Finished pass to.ready ran times'') → Ok (accepted_of c ran (n + 1)) ≡ answered (finished c (clock_of pass) (n + 1) y l count f.state)
+        accepted_is : (ran : RanState) (f : Finished pass to.ready ran times'') → Ok (accepted_of c ran (n + 1)) ≡ answered (finished c (clock_of pass) (n + 1) y l count f.state)
         unfolding accepted_of answered
-        accepted_is f =
+        accepted_is ran f =
             rw (
-              report_is f,
+              report_is ran f,
               rows_are c f.state ran.tbs ran.mains ran.videos times'' c.queue_depth _ ran.system f.at.chains f.at.system_tb f.at.system_branch,
             )
             refl
 
-        pub passes_accepted : {a : Answer} → ran.full ≡ false → a ≡ accepted_of c ran (n + 1) → ReplayedAt c l y times places (Ok a) times'' places'
-        passes_accepted f r =
-            let x = to.finishes f in
-            record { outcome = ap Ok r ∙ accepted_is x ∙ ap answered (sym (runs_at ∙ x.outcome (n + 1))); times_are = work_kept; places_are = places_kept }
+        pub passes_accepted : {ran : RanState} {a : Answer} → result ≡ Ok ran → a ≡ accepted_of c ran (n + 1) → ReplayedAt c l y times places (Ok a) times'' places'
+        passes_accepted {ran} f r =
+            let x = to.finishes ran f in
+            record { outcome = ap Ok r ∙ accepted_is ran x ∙ ap answered (sym (runs_at ∙ x.outcome (n + 1))); times_are = work_kept; places_are = places_kept }
 
 -- ---- the whole replay
 

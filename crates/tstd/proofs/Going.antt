@@ -1,59 +1,36 @@
--- The replay by steps of pass 2: what is left behind k steps in a state, and how a step goes on, is refused, or was the last.
-use Rattle.std.proofs.Common.{◌≡◌, ℕ, suc, ◌+◌, ◌-◌, ◌<◌, ◌≤◌, min, Bool, true, false, cond, ltb, length, refl, ◌∙◌, arith, ltb-false, ltb-true}
-use Rattle.error.specs.declared.Refusal.{Refusal}
+-- The replay by steps of pass 2: what is left behind a packet or an end of a stream, and what a full queue refuses.
+use Rattle.std.proofs.Common.{◌≡◌, ℕ, suc, ◌+◌, ◌-◌, ◌<◌, length, refl, sym, ap, ◌∙◌, arith}
 use Rattle.profile.specs.Config.{streams_of}
-use Rattle.model.specs.Replay.{State, Ran, running, full, refused_with, started, or_full}
+use Rattle.model.specs.Replay.{State, Ran, or_full}
 use Rattle.tstd.specs.Rest.{finished}
 use Rattle.tstd.specs.Run.{Pass, stream_count, clock_of, step_of, packets_left, ends_left, whole}
 use Rattle.tstd.proofs.Rest.{packet_next, packets_through, end_next, ends_through}
+use Rattle.tstd.proofs.Steps.{step_packet, step_end_at}
 
-pub record Going (g : Pass) (k : ℕ) (s : State) : Type 0 where
-  pub packets : (samples : ℕ) → k ≤ g.count → whole g samples ≡ packets_left g samples k s
-  pub ends : (samples : ℕ) → g.count ≤ k → whole g samples ≡ ends_left g samples (k - g.count) s
+module _ (g : Pass) (s : State) where
+  -- behind packet k
+  pub packet_goes : (k : ℕ) (r : Ran) → k < g.count → ((n : ℕ) → whole g n ≡ packets_left g n k s) → step_of g k s ≡ r
+      → (n : ℕ) → whole g n ≡ or_full k r (λ (s' : State). packets_left g n (suc k) s')
+  packet_goes k r h now is n =
+      now n
+      ∙ packet_next g.config (clock_of g) n g.layout g.recording g.count k s h
+      ∙ ap (λ (x : Ran). or_full k x (λ (s' : State). packets_left g n (suc k) s')) (sym (step_packet g k s h) ∙ is)
 
-pub going_starts : (g : Pass) → Going g 0 (started g.config)
-going_starts g =
-    record { packets = λ n h. refl; ends = λ n h. packets_through g.config (clock_of g) n g.layout g.recording g.count 0 (started g.config) h (omega arith) }
+  -- behind the packets
+  pub packets_gone : (k : ℕ) → k ≡ g.count → ((n : ℕ) → whole g n ≡ packets_left g n k s) → (n : ℕ) → whole g n ≡ ends_left g n 0 s
+  packets_gone k e now n =
+      let z : k - g.count ≡ 0 = omega arith in
+      now n ∙ packets_through g.config (clock_of g) n g.layout g.recording g.count k s (omega arith) (omega arith) ∙ rw z refl
 
--- at a step k of the steps
-module _ (g : Pass) (k : ℕ) (s : State) (counted : length (streams_of g.config) ≡ stream_count g) (h : k < g.count + stream_count g) (now : Going g k s) where
-  step_by : (t : Bool) → ltb k g.count ≡ t → (samples : ℕ) (r : Ran) → step_of g k s ≡ r
-      → whole g samples ≡ or_full (min k g.count) r (λ s'. cond t (packets_left g samples (suc k) s') (ends_left g samples (suc k - g.count) s'))
-  unfolding step_of
-  step_by true e samples r is =
-      let l = ltb-true k g.count e in
-      let m : min k g.count ≡ k = omega arith in
-      let is' = rw e at is in
-      rw (m, ← is')
-      (now.packets samples (omega arith) ∙ packet_next g.config (clock_of g) samples g.layout g.recording g.count k s l)
-  step_by false e samples r is =
-      let l = ltb-false k g.count e in
-      let m : min k g.count ≡ g.count = omega arith in
-      let n : suc k - g.count ≡ suc (k - g.count) = omega arith in
-      let is' = rw e at is in
-      rw (m, n, ← is')
-      (now.ends samples l ∙ end_next g.config (clock_of g) samples g.layout g.recording g.count (k - g.count) s (omega (arith, counted)))
+  module _ (counted : length (streams_of g.config) ≡ stream_count g) (i : ℕ) (now : (n : ℕ) → whole g n ≡ ends_left g n i s) where
+    -- behind the end of stream i
+    pub end_goes : (r : Ran) → i < stream_count g → step_of g (g.count + i) s ≡ r
+        → (n : ℕ) → whole g n ≡ or_full g.count r (λ (s' : State). ends_left g n (suc i) s')
+    end_goes r h is n =
+        now n
+        ∙ end_next g.config (clock_of g) n g.layout g.recording g.count i s (omega (arith, counted))
+        ∙ ap (λ (x : Ran). or_full g.count x (λ (s' : State). ends_left g n (suc i) s')) (sym (step_end_at g i s) ∙ is)
 
-  pub step_refused : (samples pid : ℕ) → step_of g k s ≡ full pid → whole g samples ≡ refused_with (Refusal.QueueFull (min k g.count) pid)
-  step_refused samples pid is = step_by (ltb k g.count) refl samples (full pid) is
-
-  next_by : (t : Bool) → ltb k g.count ≡ t → (s' : State) → step_of g k s ≡ running s' → Going g (suc k) s'
-  next_by true e s' is =
-      let l = ltb-true k g.count e in
-      record {
-        packets = λ n a. step_by true e n (running s') is;
-        ends = λ n a. step_by true e n (running s') is ∙ packets_through g.config (clock_of g) n g.layout g.recording g.count (suc k) s' a l;
-      }
-  next_by false e s' is =
-      let l = ltb-false k g.count e in
-      record { packets = λ n a. absurd (omega arith); ends = λ n a. step_by false e n (running s') is }
-
-  pub going_next : (s' : State) → step_of g k s ≡ running s' → Going g (suc k) s'
-  going_next s' is = next_by (ltb k g.count) refl s' is
-
--- behind the last step
-pub going_done : (g : Pass) (k : ℕ) (s : State) → length (streams_of g.config) ≡ stream_count g → k ≡ g.count + stream_count g → Going g k s
-    → (samples : ℕ) → whole g samples ≡ finished g.config (clock_of g) samples g.layout g.recording g.count s
-going_done g k s counted e now samples =
-    now.ends samples (omega arith)
-    ∙ ends_through g.config (clock_of g) samples g.layout g.recording g.count (k - g.count) s (omega (arith, counted))
+    -- behind the last of them
+    pub ends_gone : i ≡ stream_count g → (n : ℕ) → whole g n ≡ finished g.config (clock_of g) n g.layout g.recording g.count s
+    ends_gone e n = now n ∙ ends_through g.config (clock_of g) n g.layout g.recording g.count i s (omega (arith, counted))

@@ -2,7 +2,7 @@
 pub mod Rest
 pub mod ClockKept
 pub mod ChainIs
-pub mod Moments
+pub mod Buffers
 pub mod Owning
 pub mod Skipping
 pub mod Rows
@@ -13,5 +13,6 @@ pub mod Turns
 pub mod Scanned
 pub mod Moves
 pub mod Looping
+pub mod Ending
 pub mod Sound
 pub mod Core

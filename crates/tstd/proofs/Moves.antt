@@ -1,5 +1,5 @@
 -- The step of pass 2 by the owner of its packet: a stream's packet, its end, the system chain's packet, and a packet that no chain takes.
-use Rattle.std.proofs.Common.{◌≡◌, ℕ, suc, ◌+◌, ◌-◌, ◌*◌, ◌<◌, ◌≤◌, Bool, true, false, ◌||◌, eqb, ◌≢◌, List, [], ◌∷◌, ◌++◌, length, get_or, sym, refl, ap, ◌∙◌, true≢false, arith}
+use Rattle.std.proofs.Common.{◌≡◌, ℕ, suc, ◌+◌, ◌*◌, ◌<◌, Bool, true, false, ◌||◌, eqb, ◌≢◌, List, [], ◌∷◌, ◌++◌, length, get_or, sym, refl, ap, ◌∙◌, true≢false, arith}
 use lib.Ieee.{Float}
 use Rattle.ieee.specs.Binary64.{0f, 188f}
 use Rattle.ieee.specs.MaxMin.{max_of, min_of}
@@ -7,6 +7,8 @@ use Rattle.pes.specs.StreamId.{member}
 use Rattle.packet.specs.declared.TsPacket.{TsPacket}
 use Rattle.packet.specs.Packet.{parse_of}
 use Rattle.packet.proofs.Parsed as packet-bounds
+use Rattle.std.specs.Prelude.{Option, Some, None}
+use Rattle.header.specs.declared.PacketHeader.{PacketHeader}
 use Rattle.header.proofs.Headers.{Fails}
 use Rattle.scanner.specs.declared.Runs.{Runs}
 use Rattle.scanner.specs.Unit.{Open, next_open, runs_in}
@@ -43,15 +45,16 @@ use Rattle.profile.specs.declared.model.TStdBranch.{TStdBranch}
 use Rattle.model.specs.Chain.{Branch, step_branch, Stepped, packet_step, tb_events, end_step}
 use Rattle.model.specs.Replay as definition
 use Rattle.model.specs.Replay.{State, stream_at, chain_at, streams_read, stepped, owned_step, system_step, fact_step}
-use Rattle.tstd.specs.declared.moment.Moment.{Moment}
-use Rattle.tstd.specs.declared.moment.Times.{Times}
+use Rattle.tstd.specs.declared.times.Times.{Times}
 use Rattle.tstd.specs.declared.front.SystemChain.{SystemChain}
 use Rattle.tstd.specs.InWork.{unused_tb}
-use Rattle.tstd.specs.Moments.{next_times, end_moment, FrontOf, system_run, system_pushed}
+use Rattle.tstd.specs.Times.{next_times}
+use Rattle.tstd.specs.Front.{system_run, system_pushed}
 use Rattle.tstd.specs.Run.{Pass, stream_count, depth_of, clock_from, clock_of, Ready, step_of, At}
-use Rattle.tstd.proofs.ChainIs.{end_any, chain_more}
-use Rattle.tstd.proofs.Steps.{PacketIs, Arrives, packet_few, arrives, step_packet, step_end, step_unparsed, unparsed_opens, stream_used}
+use Rattle.tstd.proofs.ChainIs.{chain_more}
+use Rattle.tstd.proofs.Steps.{PacketIs, Arrives, packet_few, arrives, step_packet, step_end_at, step_unparsed, unparsed_opens, stream_used}
 use Rattle.tstd.proofs.Turns.{Turned, noted_more, Moves}
+use Rattle.tstd.proofs.Scanned.{FrontOf}
 
 -- the streams by which a recording is read are those of the profile
 contains_member : (l : List ℕ) (x : ℕ) → contains l x ≡ member x l
@@ -82,10 +85,10 @@ clock_within g ready p = covering_within p _ _ ready.within
 same_step : (m : TStdBranch) (depth : ℕ) (b : Branch) {d d' : Delivered} {end end' : Bool} {t t' : Float} → d ≡ d' → end ≡ end' → t ≡ t' → step_branch m depth d end t b ≡ step_branch m depth d' end' t' b
 same_step m depth b e f h = rw (e, f, h) refl
 
-module _ (g : Pass) (ready : Ready g) (k : ℕ) (w : List Float) (ts : List FluidFifo) (ss : List PesScanner) (ms : List MainBranch) (vs : List VideoBranch) (system : SystemChain) (times times' : Times) (sl : Slots) (s : State) (m : Moment)
-    (now : At g ready k w ts ss ms vs system times sl s) (next : times' ≡ next_times m (next_arrival w (clock_from g) g.places (suc g.last) times.arrival) times) where
-  -- ---- a packet
-  module _ (h : k < g.count) (p : PacketIs g k m) where
+module _ (g : Pass) (ready : Ready g) (k : ℕ) (w : List Float) (ts : List FluidFifo) (ss : List PesScanner) (ms : List MainBranch) (vs : List VideoBranch) (system : SystemChain) (times times' : Times) (sl : Slots) (s : State) (header : Option PacketHeader)
+    (now : At g ready k w ts ss ms vs system times sl s) (next : times' ≡ next_times header (next_arrival w (clock_from g) g.places (suc g.last) times.arrival) times) (h : k < g.count) where
+  -- ---- a packet that parses
+  module _ (y : PacketHeader) (is : header ≡ Some y) (p : PacketIs g k y) where
     abbrev x : TsPacket
     x = p.packet
 
@@ -97,7 +100,7 @@ module _ (g : Pass) (ready : Ready g) (k : ℕ) (w : List Float) (ts : List Flui
 
     times_are : times' ≡ record { arrival = coming; first_time = min_of times.first_time coming.t0; last_time = max_of times.last_time coming.t1 }
     unfolding next_times
-    times_are = next ∙ ap (λ (z : Moment). next_times z coming times) p.moment
+    times_are = next ∙ ap (λ (z : Option PacketHeader). next_times z coming times) is
 
     abbrev timed : State
     timed = definition.timed g.config (clock_of g) (188 * k) s
@@ -119,8 +122,8 @@ module _ (g : Pass) (ready : Ready g) (k : ℕ) (w : List Float) (ts : List Flui
     step_owned r e = step_packet g k s h ∙ rw e refl
 
     -- of a stream
-    module _ (i : ℕ) (o : owner_of g.config x.pid ≡ Owner.Stream i) (slot : ℕ) (t' : FluidFifo) (s' : PesScanner) (d : Delivered) (sl₁ : Slots)
-        (f : FrontOf (get_or ts i unused_tb) (get_or ss i idle) (packet_at g.layout g.recording k) m times'.arrival slot sl t' s' d sl₁) where
+    module _ (i : ℕ) (o : owner_of g.config x.pid ≡ Owner.Stream i) (t' : FluidFifo) (s' : PesScanner) (d : Delivered)
+        (f : FrontOf (get_or ts i unused_tb) (get_or ss i idle) (packet_at g.layout g.recording k) y times'.arrival t' s' d) where
       abbrev old : Transport
       old = record { tb = get_or ts i unused_tb; scanner = get_or ss i idle }
 
@@ -150,20 +153,17 @@ module _ (g : Pass) (ready : Ready g) (k : ℕ) (w : List Float) (ts : List Flui
           fact_stream g.layout g.recording k x p.parse (streams_read g.config) (read_stream g.config x.pid ∙ ap ownership.is_stream o)
           ∙ ap (λ (z : Open). parsed x (runs_in z (length payload))) (opens_own g.layout g.recording k x p.parse)
 
-      not_end : m.end ≡ false
-      not_end = ap (λ (z : Moment). z.end) p.moment
-
       abbrev arrived_now : Passed
       arrived_now =
           arrived_of old (packet_at g.layout g.recording k) x.payload_start x.payload_unit_start coming.t0 coming.t1 coming.cursor.interval
 
       arrives_so : a ≡ arrived_now
       arrives_so =
-          (f.arrives not_end).0 before keeps (packet_few g.layout g.recording k) (rw p.moment (packet-bounds.parsed _ x p.parse).start_high)
+          f.is before keeps (packet_few g.layout g.recording k) (rw p.header (packet-bounds.parsed _ x p.parse).start_high)
           ∙ ap
-          (λ (z : Moment).
+          (λ (z : PacketHeader).
           arrived_of old (packet_at g.layout g.recording k) z.payload_start z.payload_unit_start times'.arrival.t0 times'.arrival.t1 times'.arrival.cursor.interval)
-          p.moment
+          p.header
           ∙ ap
           (λ (z : Times).
           arrived_of old (packet_at g.layout g.recording k) x.payload_start x.payload_unit_start z.arrival.t0 z.arrival.t1 z.arrival.cursor.interval)
@@ -172,19 +172,19 @@ module _ (g : Pass) (ready : Ready g) (k : ℕ) (w : List Float) (ts : List Flui
       extendable : Extendable coming.cursor.interval
       extendable = within_extendable coming.cursor.interval (rw come.interval (clock_within g ready (188 * k + 188)))
 
-      abbrev y : Arrived
-      y = arrive (chain_at g.config s i).tb x.payload_start runs (arrival_at (clock_of g) (188 * k)) (arrival_at (clock_of g) (188 * k + 188)) (stamp_time (covering (188 * k + 188) (clock_of g)) runs.decode_ts)
+      abbrev theirs : Arrived
+      theirs = arrive (chain_at g.config s i).tb x.payload_start runs (arrival_at (clock_of g) (188 * k)) (arrival_at (clock_of g) (188 * k + 188)) (stamp_time (covering (188 * k + 188) (clock_of g)) runs.decode_ts)
 
       tb_is : get_or ts i unused_tb ≡ (chain_at g.config s i).tb
       tb_is = (now.chains i slot_is.counted).tb
 
-      arrived_tb : t' ≡ y.tb
+      arrived_tb : t' ≡ theirs.tb
       arrived_tb =
           ap (λ (z : Passed). z.transport.tb) arrives_so
           ∙ arrive_tb old before keeps _ _ _ _ _ _ extendable
           ∙ rw (tb_is, come.t0, come.t1, come.interval) refl
 
-      arrived_delivered : d ≡ y.delivered
+      arrived_delivered : d ≡ theirs.delivered
       arrived_delivered =
           ap (λ (z : Passed). z.delivered) arrives_so
           ∙ arrive_delivered old before keeps _ _ _ _ _ _ extendable
@@ -194,16 +194,16 @@ module _ (g : Pass) (ready : Ready g) (k : ℕ) (w : List Float) (ts : List Flui
       start_is = ap (λ (z : Times). z.arrival.t0) times_are ∙ come.t0
 
       step_stream : (st : Stepped)
-          → st ≡ step_branch (stream_at g.config i).model.branch (depth_of g) d m.end times'.arrival.t0 (chain_at g.config s i).branch
+          → st ≡ step_branch (stream_at g.config i).model.branch (depth_of g) d false times'.arrival.t0 (chain_at g.config s i).branch
           → step_of g k s ≡ stepped g.config i timed (record { full = st.full; chain = record { tb = t'; branch = st.branch }; events = [] ++ st.events })
       unfolding owned_step packet_step definition.timed
       step_stream st e =
-          let e' : st ≡ step_branch (stream_at g.config i).model.branch (depth_of g) y.delivered false (arrival_at (clock_of g) (188 * k)) (chain_at g.config s i).branch =
+          let e' : st ≡ step_branch (stream_at g.config i).model.branch (depth_of g) theirs.delivered false (arrival_at (clock_of g) (188 * k)) (chain_at g.config s i).branch =
           e
-          ∙ same_step (stream_at g.config i).model.branch (depth_of g) (chain_at g.config s i).branch arrived_delivered not_end start_is in
+          ∙ same_step (stream_at g.config i).model.branch (depth_of g) (chain_at g.config s i).branch arrived_delivered refl start_is in
           step_owned runs fact_is ∙ rw (o, arrived_tb, e') refl
 
-      pub packet_moves : Moves g ready k s i t' s' d m.end times'.arrival.t0 times' sl sl₁
+      pub packet_moves : Moves g ready k s i t' s' d false times'.arrival.t0 times' sl sl
       unfolding definition.timed noted_all
       packet_moves =
           record {
@@ -216,7 +216,7 @@ module _ (g : Pass) (ready : Ready g) (k : ℕ) (w : List Float) (ts : List Flui
             events = refl;
             first = first_is;
             last = last_is;
-            noted = (f.arrives not_end).1;
+            noted = refl;
             step = step_stream;
             arrival = λ c. arrival_at_lem;
             own = λ c r.
@@ -286,10 +286,10 @@ module _ (g : Pass) (ready : Ready g) (k : ℕ) (w : List Float) (ts : List Flui
           };
         }
 
-  -- ---- an unparsed packet
-  pub unparsed_turns : k < g.count → Fails (parse_of (packet_at g.layout g.recording k)) → m.end ≡ false → m.parsed ≡ false → Turned g ready k s w ts ss ms vs system times' sl
+  -- ---- a packet that does not parse
+  pub unparsed_turns : Fails (parse_of (packet_at g.layout g.recording k)) → header ≡ None → Turned g ready k s w ts ss ms vs system times' sl
   unfolding next_times
-  unparsed_turns h f a b =
+  unparsed_turns f e =
       record {
         state = s;
         step = step_unparsed g k s h f;
@@ -312,51 +312,35 @@ module _ (g : Pass) (ready : Ready g) (k : ℕ) (w : List Float) (ts : List Flui
       }
     where
       are : times' ≡ record { arrival = next_arrival w (clock_from g) g.places (suc g.last) times.arrival; first_time = times.first_time; last_time = times.last_time }
-      are = next ∙ rw (a, b) refl
+      are = next ∙ rw e refl
 
-  -- ---- the end of a stream
-  module _ (h : g.count ≤ k) (below : k < g.count + stream_count g) (e : m ≡ end_moment (k - g.count)) (slot : ℕ) (t' : FluidFifo) (s' : PesScanner) (d : Delivered) (sl₁ : Slots)
-      (slot_is : slot ≡ 1 + 6 * (k - g.count)) (f : FrontOf (get_or ts (k - g.count) unused_tb) (get_or ss (k - g.count) idle) (packet_at g.layout g.recording k) m times'.arrival slot sl t' s' d sl₁) where
-    abbrev i : ℕ
-    i = k - g.count
+-- ---- the end of stream i
+module _ (g : Pass) (ready : Ready g) (i : ℕ) (w : List Float) (ts : List FluidFifo) (ss : List PesScanner) (ms : List MainBranch) (vs : List VideoBranch) (system : SystemChain) (times : Times) (sl : Slots) (s : State)
+    (now : At g ready (g.count + i) w ts ss ms vs system times sl s) (used : i < stream_count g) (t : FluidFifo) (is-t : t ≡ get_or ts i unused_tb) (sl₁ : Slots) (noted : sl₁ ≡ noted_all (1 + 6 * i) (tb_events t) sl) where
+  tb_here : t ≡ (chain_at g.config s i).tb
+  tb_here = is-t ∙ (now.chains i used).tb
 
-    is_end : m.end ≡ true
-    is_end = ap (λ (z : Moment). z.end) e
+  step_ends : (st : Stepped)
+      → st ≡ step_branch (stream_at g.config i).model.branch (depth_of g) nothing true 0f (chain_at g.config s i).branch
+      → step_of g (g.count + i) s ≡ stepped g.config i s (record { full = st.full; chain = record { tb = t; branch = st.branch }; events = tb_events t ++ st.events })
+  unfolding end_step
+  step_ends st z = step_end_at g i s ∙ rw (stream_used g i used, tb_here, z) refl
 
-    used : i < stream_count g
-    used = omega arith
-
-    times_same : times' ≡ times
-    unfolding next_times
-    times_same = next ∙ rw is_end refl
-
-    tb_here : t' ≡ (chain_at g.config s i).tb
-    tb_here = (f.ends is_end).0 ∙ (now.chains i used).tb
-
-    step_ends : (st : Stepped)
-        → st ≡ step_branch (stream_at g.config i).model.branch (depth_of g) d m.end times'.arrival.t0 (chain_at g.config s i).branch
-        → step_of g k s ≡ stepped g.config i s (record { full = st.full; chain = record { tb = t'; branch = st.branch }; events = tb_events (chain_at g.config s i).tb ++ st.events })
-    unfolding end_step
-    step_ends st z =
-        let z' : st ≡ step_branch (stream_at g.config i).model.branch (depth_of g) nothing true 0f (chain_at g.config s i).branch =
-        z ∙ rw is_end (end_any (stream_at g.config i).model.branch (depth_of g) d nothing times'.arrival.t0 0f (chain_at g.config s i).branch) in
-        step_end g k s h ∙ rw (stream_used g i used, tb_here, z') refl
-
-    pub end_moves : Moves g ready k s i t' s' d m.end times'.arrival.t0 times' sl sl₁
-    end_moves =
-        record {
-          in_use = used;
-          timed = s;
-          before = tb_events (chain_at g.config s i).tb;
-          chains = refl;
-          sys_tb = refl;
-          sys = refl;
-          events = refl;
-          first = ap (λ (z : Times). z.first_time) times_same ∙ now.first;
-          last = ap (λ (z : Times). z.last_time) times_same ∙ now.last;
-          noted = (f.ends is_end).3 ∙ rw (slot_is, (now.chains i used).tb) refl;
-          step = step_ends;
-          arrival = λ c. absurd (omega arith);
-          own = λ c r. absurd (omega arith);
-          others = λ c j n l r. absurd (omega arith);
-        }
+  pub end_moves : Moves g ready (g.count + i) s i t (get_or ss i idle) nothing true 0f times sl sl₁
+  end_moves =
+      record {
+        in_use = used;
+        timed = s;
+        before = tb_events t;
+        chains = refl;
+        sys_tb = refl;
+        sys = refl;
+        events = refl;
+        first = now.first;
+        last = now.last;
+        noted = noted;
+        step = step_ends;
+        arrival = λ c. absurd (omega arith);
+        own = λ c r. absurd (omega arith);
+        others = λ c j n l r. absurd (omega arith);
+      }

@@ -1,12 +1,13 @@
--- A step of pass 2 by its moment: the packet's arrival and its fact, and what the definition's step is.
-use Rattle.std.proofs.Common.{◌≡◌, ℕ, suc, ◌+◌, ◌-◌, ◌*◌, ◌/◌, ◌^◌, ◌<◌, ◌≤◌, Bool, true, false, cond, leb, List, [], length, get_or, take, drop, refl, ap, ◌∙◌, mul-le-mul_left, div-mul-le_self, arith, length-take, get_or-take, le-ltb, lt-ltb, leb-false, leb-true}
+-- A step of pass 2: the packet of a header, its arrival and its fact, and what the definition's step is.
+use Rattle.std.proofs.Common.{◌≡◌, ℕ, suc, ◌+◌, ◌-◌, ◌*◌, ◌/◌, ◌^◌, ◌<◌, ◌≤◌, Bool, true, false, cond, leb, List, [], length, get_or, take, drop, refl, ap, ◌∙◌, mul-le-mul_left, div-mul-le_self, arith, length-take, get_or-take, le-ltb, lt-ltb}
 use lib.Ieee.{Float}
 use Rattle.packet.specs.declared.TsPacket.{TsPacket}
 use Rattle.packet.specs.declared.TsError.{TsError}
-use Rattle.std.specs.Prelude.{None, Result, Ok, Err}
+use Rattle.std.specs.Prelude.{Some, Result, Ok, Err}
 use Rattle.packet.specs.declared.TsPacketLayout.{TsPacketLayout}
 use Rattle.packet.specs.Packet.{parse_of}
 use Rattle.packet.specs.Layout.{window_of}
+use Rattle.header.specs.declared.PacketHeader.{PacketHeader}
 use Rattle.header.specs.Header.{header_of}
 use Rattle.header.proofs.Headers.{Fails}
 use Rattle.recording.specs.Read.{unparsed, packet_at, opens_at, fact_at, fact_by}
@@ -17,13 +18,8 @@ use Rattle.arrival.specs.Work.{next_arrival}
 use Rattle.arrival.proofs.Covering.{AtEnd, end_interval}
 use Rattle.branch.specs.Queue.{SameOutside}
 use Rattle.profile.specs.Config.{streams_of, unused_stream}
-use Rattle.profile.specs.Owner.{owner_of, pids_of}
-use Rattle.profile.proofs.Ownership.{pids_owner}
 use Rattle.model.specs.Chain.{end_step}
 use Rattle.model.specs.Replay.{State, running, stream_at, chain_at, streams_read, stepped, fact_step}
-use Rattle.tstd.specs.declared.moment.Moment.{Moment}
-use Rattle.tstd.specs.Owners.{owner_index}
-use Rattle.tstd.specs.Moments.{packet_moment, end_moment, moment_of}
 use Rattle.tstd.specs.Run.{Pass, stream_count, depth_of, clock_from, clock_of, Ready, step_of}
 use Rattle.tstd.proofs.ClockKept.{packet_arrives}
 
@@ -35,32 +31,21 @@ window_is g k at e =
     let f : at ≡ k * g.layout.packet_size + g.layout.sync_offset = omega arith in
     ap (λ (n : ℕ). cond (leb (n + 188) (length g.recording)) (take 188 (drop n g.recording)) []) f
 
--- ---- the moment of step k
+-- ---- the packet of a header
 
-pub record PacketIs (g : Pass) (k : ℕ) (m : Moment) : Type 0 where
+pub record PacketIs (g : Pass) (k : ℕ) (h : PacketHeader) : Type 0 where
   pub packet : TsPacket
   pub parse : parse_of (packet_at g.layout g.recording k) ≡ Ok packet
-  pub moment : m
-      ≡ record { end = false; parsed = true; owner = owner_index (owner_of g.config packet.pid); payload_start = packet.payload_start; payload_unit_start = packet.payload_unit_start }
+  pub header : h ≡ record { pid = packet.pid; payload_unit_start = packet.payload_unit_start; payload_start = packet.payload_start }
 
-pub data MomentIs (g : Pass) (k : ℕ) (m : Moment) : Type 0 where
-  at_end : g.count ≤ k → m ≡ end_moment (k - g.count) → MomentIs g k m
-  at_unparsed : k < g.count → Fails (parse_of (packet_at g.layout g.recording k)) → m ≡ packet_moment (pids_of g.config) None → MomentIs g k m
-  at_packet : k < g.count → PacketIs g k m → MomentIs g k m
-
-module _ (g : Pass) (k : ℕ) (m : Moment) where
-  by_parse : k < g.count → (p : Result TsPacket TsError) → parse_of (packet_at g.layout g.recording k) ≡ p → m ≡ packet_moment (pids_of g.config) (header_of p) → MomentIs g k m
+module _ (g : Pass) (k : ℕ) (h : PacketHeader) where
+  by_parse : (p : Result TsPacket TsError) → parse_of (packet_at g.layout g.recording k) ≡ p → header_of p ≡ Some h → PacketIs g k h
   unfolding header_of
-  by_parse h (Ok x) e f = at_packet h (record { packet = x; parse = e; moment = rw (← pids_owner g.config x.pid) f })
-  by_parse h (Err x) e f = at_unparsed h (record { error = x; is = e }) f
+  by_parse (Ok x) e f = record { packet = x; parse = e; header = cc }
+  by_parse (Err x) e f = absurd (cc)
 
-  by_count : (t : Bool) → leb g.count k ≡ t → m ≡ moment_of (pids_of g.config) (packet_at g.layout g.recording k) g.count k → MomentIs g k m
-  unfolding moment_of
-  by_count true e f = at_end (leb-true _ _ e) (rw e at f)
-  by_count false e f = by_parse (leb-false _ _ e) _ refl (rw e at f)
-
-  pub moment_is : m ≡ moment_of (pids_of g.config) (packet_at g.layout g.recording k) g.count k → MomentIs g k m
-  moment_is f = by_count (leb g.count k) refl f
+  pub packet_is : header_of (parse_of (packet_at g.layout g.recording k)) ≡ Some h → PacketIs g k h
+  packet_is f = by_parse _ refl f
 
 -- ---- its times
 
@@ -132,6 +117,13 @@ module _ (g : Pass) (k : ℕ) (s : State) where
   pub step_unparsed : k < g.count → Fails (parse_of (packet_at g.layout g.recording k)) → step_of g k s ≡ running s
   unfolding fact_step
   step_unparsed h f = step_packet h ∙ rw (unparsed_fact f) refl
+
+-- the end of stream i
+pub step_end_at : (g : Pass) (i : ℕ) (s : State)
+    → step_of g (g.count + i) s ≡ stepped g.config i s (end_step (get_or (streams_of g.config) i unused_stream) (depth_of g) (chain_at g.config s i))
+step_end_at g i s =
+    let e : g.count + i - g.count ≡ i = omega arith in
+    step_end g (g.count + i) s (omega arith) ∙ rw e refl
 
 -- the streams in use
 pub streams_counted : (g : Pass) → Ready g → length (streams_of g.config) ≡ stream_count g

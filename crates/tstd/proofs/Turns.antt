@@ -24,7 +24,7 @@ use Rattle.fifo.specs.declared.FluidFifo.{FluidFifo}
 use Rattle.scanner.specs.declared.PesScanner.{PesScanner}
 use Rattle.model.specs.Chain.{Chain, new_chain, step_branch, Stepped}
 use Rattle.model.specs.Replay.{State, running, full, stream_at, chain_at, stepped, with_events}
-use Rattle.tstd.specs.declared.moment.Times.{Times}
+use Rattle.tstd.specs.declared.times.Times.{Times}
 use Rattle.tstd.specs.declared.front.SystemChain.{SystemChain}
 use Rattle.tstd.specs.InWork.{ChainIs, unused_tb}
 use Rattle.tstd.specs.Run.{Pass, stream_count, depth_of, clock_from, Ready, step_of, ChainAt, At}

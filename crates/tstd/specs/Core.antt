@@ -1,5 +1,5 @@
 -- The replay of a recording as the code gives it: the answer that the definition's outcome is, and what the lent work then holds.
-use Rattle.std.specs.Prelude.{◌≡◌, ℕ, ◌^◌, ◌≤◌, min, Bool, false, cond, List, ◌++◌, length, ◌==◌, nat_le, Float, Some, Result, Ok, Err}
+use Rattle.std.specs.Prelude.{◌≡◌, ℕ, ◌^◌, ◌≤◌, Bool, false, cond, List, ◌++◌, length, ◌==◌, nat_le, Float, Some, Result, Ok, Err}
 use Rattle.std.specs.Float.Ieee.{lt}
 use Rattle.ieee.specs.Binary64.{◌⊖◌, 0f}
 use Rattle.error.specs.declared.Refusal.{Refusal}
@@ -19,7 +19,7 @@ use Rattle.summary.specs.Summary.{summary}
 use Rattle.answer.specs.declared.Answer.{Answer}
 use Rattle.answer.specs.Answer.{accepted_answer, refused_answer}
 use Rattle.model.specs.Chain.{tb_events}
-use Rattle.model.specs.Replay.{Outcome, accepted, refused_with, streams_read, stream_at, with_layout, replay}
+use Rattle.model.specs.Replay.{Outcome, accepted, refused_with, streams_read, with_layout, replay}
 use Rattle.tstd.specs.declared.run.Ran.{Ran as RanState}
 use Rattle.tstd.specs.Clear.{zeroed}
 use Rattle.tstd.specs.Figures.{rows_from, system_rows}
@@ -79,10 +79,6 @@ pub record ReplayedAt (c : TStdConfig) (l : List ℕ) (y : TsPacketLayout) (time
   pub places_are : zeroed 0 (needed_of c).places places' ≡ zeroed 0 (needed_of c).places places
 
 -- ---- the answer behind pass 2
-
--- number 10 with the packet, or behind the packets their count, and the PID of the full chain
-abbrev pub queue_full : TStdConfig → RanState → ℕ → Refusal
-queue_full c r count = Refusal.QueueFull (min r.step count) (stream_at c r.owner).pid
 
 -- the system chain's transport buffer is looked at last, where there are system PIDs
 unfoldable pub last_slots : TStdConfig → RanState → Slots

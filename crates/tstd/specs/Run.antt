@@ -1,5 +1,5 @@
 -- Pass 2 as the loop of the code holds it: what does not change, and what the arrays, the work and the slots are behind k steps.
-use Rattle.std.specs.Prelude.{◌≡◌, ℕ, suc, ◌+◌, ◌-◌, ◌*◌, ◌/◌, ◌^◌, ◌<◌, ◌≤◌, min, true, false, cond, List, length, nat_lt, slice_index_or, Float}
+use Rattle.std.specs.Prelude.{◌≡◌, ℕ, suc, ◌+◌, ◌-◌, ◌*◌, ◌/◌, ◌^◌, ◌<◌, ◌≤◌, true, cond, List, length, nat_lt, slice_index_or, Float, Result, Ok, Err}
 use Rattle.error.specs.declared.Refusal.{Refusal}
 use Rattle.packet.specs.declared.TsPacketLayout.{TsPacketLayout}
 use Rattle.scanner.specs.declared.PesScanner.{PesScanner}
@@ -23,10 +23,11 @@ use Rattle.summary.specs.Summary.{empty_slots, noted_found}
 use Rattle.fifo.specs.declared.FluidFifo.{FluidFifo}
 use Rattle.model.specs.Chain.{end_step}
 use Rattle.model.specs.Replay.{State, Ran, running, started, Outcome, refused_with, streams_read, stream_at, chain_at, stepped, fact_step}
-use Rattle.tstd.specs.declared.moment.Times.{Times}
+use Rattle.tstd.specs.declared.times.Times.{Times}
 use Rattle.tstd.specs.declared.front.SystemChain.{SystemChain}
+use Rattle.tstd.specs.declared.stream.StreamModel.{StreamModel}
 use Rattle.tstd.specs.declared.run.Ran.{Ran as RanState}
-use Rattle.tstd.specs.InWork.{ChainIs, unused_tb}
+use Rattle.tstd.specs.InWork.{ChainIs, ModelsOf, unused_tb}
 use Rattle.tstd.specs.Rest.{finished, from_packet, from_end}
 
 -- the profile, the recording with its layout and count of packets, and the work with the clock as pass 1 left it
@@ -119,6 +120,18 @@ abbrev pub pass_of : TStdConfig → List ℕ → TsPacketLayout → ℕ → List
 pass_of c l y count w places intervals =
     record { config = c; recording = l; layout = y; count = count; work = w; places = places; last = intervals - 1 }
 
+-- number 10 with the packet, and the PID of the full chain
+abbrev pub queue_full : TStdConfig → ℕ → ℕ → Refusal
+queue_full c packet i = Refusal.QueueFull packet (stream_at c i).pid
+
+-- behind the packets and the ends of i streams, r is the state that they reach; the scanners are those that the answer does not need
+pub record Through (g : Pass) (ready : Ready g) (i : ℕ) (r : RanState) (w : List Float) : Type 0 where
+  pub state : State
+  pub scanners : List PesScanner
+  pub reached : Reached g (g.count + i) state
+  pub at : At g ready (g.count + i) w r.tbs scanners r.mains r.videos r.system r.times r.slots state
+  pub left : (samples : ℕ) → whole g samples ≡ ends_left g samples i state
+
 -- all steps were taken
 pub record Finished (g : Pass) (ready : Ready g) (r : RanState) (w : List Float) : Type 0 where
   pub state : State
@@ -128,9 +141,13 @@ pub record Finished (g : Pass) (ready : Ready g) (r : RanState) (w : List Float)
   pub at : At g ready (g.count + stream_count g) w r.tbs scanners r.mains r.videos r.system r.times r.slots state
   pub outcome : (samples : ℕ) → whole g samples ≡ finished g.config (clock_of g) samples g.layout g.recording g.count state
 
-pub record RanTo (g : Pass) (r : RanState) (w : List Float) : Type 0 where
+pub record RanTo (g : Pass) (result : Result RanState Refusal) (w : List Float) : Type 0 where
   pub ready : Ready g
   pub outside : SameOutside 0 (clock_from g) g.work w
-  pub refused : r.full ≡ true
-      → (r.owner < 8) × ((samples : ℕ) → whole g samples ≡ refused_with (Refusal.QueueFull (min r.step g.count) (stream_at g.config r.owner).pid))
-  pub finishes : r.full ≡ false → Finished g ready r w
+  pub refused : (x : Refusal) → result ≡ Err x → (samples : ℕ) → whole g samples ≡ refused_with x
+  pub finishes : (r : RanState) → result ≡ Ok r → Finished g ready r w
+
+-- the ends of the streams, whatever the recording whose packets are through
+pub record EndsTo (c : TStdConfig) (models : List StreamModel) (count : ℕ) (w : List Float) (r : RanState) (result : Result RanState Refusal) (w' : List Float) : Type 0 where
+  pub ends : (l : List ℕ) (y : TsPacketLayout) (work : List Float) (places : List ℕ) (n : ℕ) (ready : Ready (pass_of c l y count work places n)) → ModelsOf c.streams c.queue_depth 8 models
+      → Through (pass_of c l y count work places n) ready 0 r w → RanTo (pass_of c l y count work places n) result w'

@@ -3,16 +3,16 @@
 
 mod figures;
 mod front;
-mod moment;
 mod owners;
 mod run;
 mod skip;
 mod stream;
+mod times;
 
 ghost use Rattle.std.specs.Prelude.{◌≡◌, ◌<◌, ◌≤◌, if◌then◌else◌};
 ghost use Rattle.std.specs.Float.Ieee.{lt};
 ghost use Rattle.ieee.specs.Binary64.{◌⊖◌, 0f};
-ghost use Rattle.tstd.specs.Core.{accepted_of, queue_full, Fitting, ReplayedAt, Ended, Replayed};
+ghost use Rattle.tstd.specs.Core.{accepted_of, Fitting, ReplayedAt, Ended, Replayed};
 
 use answer::Answer;
 use error::Refusal;
@@ -50,17 +50,6 @@ fn accepted(config: TStdConfig, ran: Ran, samples: usize) -> Answer
     }
 }
 
-// Number 10 counts the packets from 0; at the end of a stream it has the packet count.
-fn queue_full(config: TStdConfig, ran: Ran, count: usize) -> Refusal
-    requires { ran.owner < 8 }
-    ensures { result ≡ queue_full config ran count }
-{
-    Refusal::QueueFull {
-        packet: ran.step.min(count) as u64,
-        pid: config.streams[ran.owner].pid,
-    }
-}
-
 // Both passes at the layout that is found.
 fn replay_at(
     bytes: &[u8],
@@ -84,10 +73,7 @@ fn replay_at(
         from,
         places,
     )?;
-    let ran = run::run(config, bytes, layout, count, times, places, n);
-    if ran.full {
-        return Err(queue_full(config, ran, count));
-    }
+    let ran = run::run(config, bytes, layout, count, times, places, n)?;
     Ok(accepted(config, ran, n + 1))
 }
 

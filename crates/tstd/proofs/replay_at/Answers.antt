@@ -1,5 +1,5 @@
 -- `replay_at` meets its contract. Assumes nothing.
-use Rattle.std.proofs.Common.{refl, ap, ◌∙◌, Err, arith}
+use Rattle.std.proofs.Common.{ap, ◌∙◌, Err, arith}
 use Rattle.std.proofs.lemmas.Result.{err_from_is_err_and}
 use Rattle.tstd.proofs.Core.{size_some, from_few, clock_refused, some_intervals, intervals_few, ready, queue_refused, passes_accepted}
 use Rattle.tstd.proofs.replay_at.Goals as goal
@@ -10,22 +10,11 @@ nonzero_div-count c = omega (arith, size_some _ _ _ _ _ c.requires)
 pub overflow_mul-from-2 : goal.overflow_mul-from-2
 overflow_mul-from-2 c = omega (arith, from_few _ _ _ _ _ c.requires)
 
-pub run-ran-requires : goal.run-ran-requires
-run-ran-requires c =
+pub run-requires : goal.run-requires
+run-requires c =
     let fits = c.requires in
     let is = c.build.ensures in
     (some_intervals _ _ _ _ _ fits is _ c.in_ok-n.was, ready _ _ _ _ _ fits is _ c.in_ok-n.was)
-
-pub queue_full-requires : goal.queue_full-requires
-queue_full-requires c = (c.run-ran.ensures.refused c.if-ran.true).0
-
-pub returns-then-ran : goal.returns-then-ran
-returns-then-ran c =
-    queue_refused _ _ _ _ _ c.requires c.build.ensures _ c.in_ok-n.was
-    c.run-ran.ensures
-    c.if-ran.true
-    c.queue_full.ensures
-    refl
 
 pub overflow_add-n : goal.overflow_add-n
 overflow_add-n c =
@@ -36,9 +25,14 @@ returns-in_err-n c =
     let e = err_from_is_err_and c.from_residual.result c.from_residual.ensures.1 in
     clock_refused _ _ _ _ _ c.requires c.build.ensures c.in_err-n.was (e.1 ∙ ap Err e.2)
 
+pub returns-in_err-ran : goal.returns-in_err-ran
+returns-in_err-ran c =
+    let e = err_from_is_err_and c.from_residual-in_err-ran.result c.from_residual-in_err-ran.ensures.1 in
+    queue_refused _ _ _ _ _ c.requires c.build.ensures _ c.in_ok-n.was c.run.ensures c.in_err-ran.was (e.1 ∙ ap Err e.2)
+
 pub returns : goal.returns
 returns c =
     passes_accepted _ _ _ _ _ c.requires c.build.ensures _ c.in_ok-n.was
-    c.run-ran.ensures
-    c.if-ran.false
+    c.run.ensures
+    c.in_ok-ran.was
     c.accepted.ensures

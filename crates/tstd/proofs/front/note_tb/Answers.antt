@@ -1,5 +1,5 @@
 -- `note_tb` meets its contract. Assumes nothing.
-use Rattle.tstd.proofs.Moments.{tb_noted}
+use Rattle.tstd.proofs.Buffers.{tb_noted}
 use Rattle.tstd.proofs.front.note_tb.Goals as goal
 
 pub returns : goal.returns

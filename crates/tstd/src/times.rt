@@ -1,0 +1,51 @@
+// When the packets arrive: the arrival clock of pass 2 as it goes from packet to packet.
+ghost use Rattle.std.specs.Prelude.{◌≡◌};
+ghost use Rattle.arrival.specs.Work.{start_of_arrival, next_arrival};
+ghost use Rattle.tstd.specs.Times.{start_times, next_times};
+
+use arrival::PacketArrival;
+use header::PacketHeader;
+
+// The packet's arrival, and that of the first and the last byte of the packets that parse.
+#[derive(Clone, Copy)]
+pub struct Times {
+    pub arrival: PacketArrival,
+    pub first_time: f64,
+    pub last_time: f64,
+}
+
+impl Times {
+    // Before any packet.
+    pub(crate) fn start(times: &[f64], from: usize, places: &[u64], intervals: usize) -> Times
+        ensures { result ≡ start_times (start_of_arrival times.now from places.now intervals) }
+    {
+        Times {
+            arrival: PacketArrival::start(times, from, places, intervals),
+            first_time: f64::INFINITY,
+            last_time: f64::NEG_INFINITY,
+        }
+    }
+
+    // The times behind the next packet, whose header is given where it parses.
+    #[tactic(auto, unfolding(crate::specs::Times::next_times))]
+    pub(crate) fn next(
+        self,
+        header: Option<PacketHeader>,
+        times: &[f64],
+        from: usize,
+        places: &[u64],
+        intervals: usize,
+    ) -> Times
+        ensures { result ≡ next_times header (next_arrival times.now from places.now intervals self.arrival) self }
+    {
+        let arrival = self.arrival.next(times, from, places, intervals);
+        if header.is_none() {
+            return Times { arrival, ..self };
+        }
+        Times {
+            arrival,
+            first_time: ieee::min(self.first_time, arrival.t0),
+            last_time: ieee::max(self.last_time, arrival.t1),
+        }
+    }
+}
