@@ -1,6 +1,6 @@
 -- The replay behind its checks: pass 1 makes what pass 2 asks, their answer is the definition's, and what of the work is not cleared is as it was.
 -- Assumes nothing.
-use Rattle.std.proofs.Common.{◌≡◌, ℕ, suc, ◌+◌, ◌-◌, ◌*◌, ◌/◌, ◌^◌, ◌<◌, ◌≤◌, Bool, true, false, cond, leb, List, ◌++◌, map, length, sym, refl, ap, ◌∙◌, mul-le-mul, le-div_iff_mul-le, arith, eq-eqb, ne_eqb, le-leb}
+use Rattle.std.proofs.Common.{◌≡◌, ℕ, suc, ◌+◌, ◌-◌, ◌*◌, ◌/◌, ◌^◌, ◌<◌, ◌≤◌, Bool, true, false, cond, leb, List, ◌++◌, map, length, drop, sym, refl, ap, ◌∙◌, mul-le-mul, le-div_iff_mul-le, arith, length-drop, eq-eqb, ne_eqb, le-leb}
 use lib.Ieee.{Float, lt}
 use Rattle.ieee.specs.Binary64.{◌⊖◌, 0f}
 use Rattle.error.specs.declared.Refusal.{Refusal}
@@ -12,7 +12,8 @@ use Rattle.packet.proofs.Layouts as layouts
 use Rattle.recording.specs.Read.{Fact, parse_in, packets, facts_from, read_at, read_of, Read}
 use Rattle.recording.proofs.Facts.{read_found, read_nothing, read_parts, facts_length}
 use Rattle.recording.proofs.Bounds.{facts_fit}
-use Rattle.arrival.specs.ArrivalClock.{intervals, refused, build}
+use Rattle.arrival.specs.declared.IntervalsMut.{IntervalsMut}
+use Rattle.arrival.specs.ArrivalClock.{build}
 use Rattle.arrival.specs.Samples.{samples_of}
 use Rattle.arrival.specs.Work.{holds, intervals_in}
 use Rattle.arrival.proofs.Within.{Counted}
@@ -21,7 +22,6 @@ use Rattle.arrival_clock.proofs.Clock.{build_keeps, build_refused, build_interva
 use Rattle.arrival_clock.proofs.Facts.{samples_read_lem}
 use Rattle.events.specs.declared.Slots.{Slots}
 use Rattle.events.specs.Slots.{noted_all}
-use Rattle.branch.proofs.Rings.{outside_wider}
 use Rattle.report.specs.declared.TStdReport.{TStdReport}
 use Rattle.answer.specs.declared.Answer.{Answer}
 use Rattle.answer.specs.declared.Figures.{Figures}
@@ -42,10 +42,10 @@ use Rattle.tstd.specs.declared.run.Ran.{Ran as RanState}
 use Rattle.tstd.specs.Clear.{zeroed}
 use Rattle.tstd.specs.Figures.{rows_from, system_rows}
 use Rattle.tstd.specs.Rest.{from_packet, finished}
-use Rattle.tstd.specs.Run.{Pass, pass_of, clock_of, Ready, whole, RanTo, Finished}
+use Rattle.tstd.specs.Run.{Pass, clock_of, Ready, whole, RanTo, Finished}
 use Rattle.tstd.specs.Core.{answer_for, keeps_work, outcome_of, left_of, answered, Replayed, Ended, Fitting, ReplayedAt, last_slots, report_in, accepted_of}
 use Rattle.tstd.proofs.Rows.{rows_are}
-use Rattle.tstd.proofs.Cleared.{zeroed_behind, zeroed_outside}
+use Rattle.tstd.proofs.Cleared.{zeroed_behind, zeroed_parts}
 use Rattle.tstd.proofs.Sound.{report_lines}
 
 -- ---- the answer behind pass 2, as the code makes it
@@ -64,7 +64,7 @@ module _ (c : TStdConfig) (r : RanState) where
 
   pub accepted_made : (samples : ℕ) (sl : Slots) (x : TStdReport) (seconds : Float) (fs : Figures) → sl ≡ last_slots c r → x ≡ summary c sl
       → seconds ≡ cond (lt r.times.first_time r.times.last_time) (r.times.last_time ⊖ r.times.first_time) 0f
-      → fs ≡ figures_of (rows_from 0 (streams_of c) r.tbs r.mains r.videos ++ system_rows c r.system)
+      → fs ≡ figures_of (rows_from 0 (streams_of c) r.chains ++ system_rows c r.system)
       → ◌≡◌ {A = Answer} (record {
         outcome = Ok fs;
         report = record {
@@ -80,6 +80,11 @@ module _ (c : TStdConfig) (r : RanState) where
 
 -- ---- at the layout that is found
 
+-- with what the parts of the work hold in the end
+pub replayed_as : {c : TStdConfig} {l : List ℕ} {y : TsPacketLayout} {times : List Float} {places : List ℕ} {a : Result Answer Refusal} (work t t' : List Float) (p p' : List ℕ) → t ≡ t' → p ≡ p'
+    → ReplayedAt c l y times places a (work ++ t') p' → ReplayedAt c l y times places a (work ++ t) p
+replayed_as work t t' p p' e f r = rw (e, f) r
+
 module _ (c : TStdConfig) (l : List ℕ) (y : TsPacketLayout) (times : List Float) (places : List ℕ) (fit : Fitting c l y times places) where
   abbrev read : Read
   read = read_of (streams_read c) l
@@ -87,7 +92,7 @@ module _ (c : TStdConfig) (l : List ℕ) (y : TsPacketLayout) (times : List Floa
   abbrev count : ℕ
   count = packets y l
 
-  -- where the clock stands in the work
+  -- where the clock's floats begin: behind the chains' work
   abbrev from : ℕ
   from = 8 * c.queue_depth * c.stream_count
 
@@ -114,7 +119,12 @@ module _ (c : TStdConfig) (l : List ℕ) (y : TsPacketLayout) (times : List Floa
       let e : length (read_at y (streams_read c) l).facts ≡ count = ap (λ (r : Read). length r.facts) (read_parts y (streams_read c) l) ∙ facts_length y (streams_read c) l 0 count in
       omega (arith, facts_fit y (streams_read c) l (layouts.known_room known), fit.long)
 
-  clock_room : holds c.clock_depth times from places ≡ true
+  -- the work has the chains' part, and behind it room for the clock
+  pub parts : from ≤ length times
+  unfolding needed_of
+  parts = omega (arith, fit.times_fit)
+
+  clock_room : holds c.clock_depth (drop from times) places ≡ true
   unfolding holds needed_of
   clock_room =
       let d = c.clock_depth in
@@ -122,18 +132,21 @@ module _ (c : TStdConfig) (l : List ℕ) (y : TsPacketLayout) (times : List Floa
       let p = fit.places_fit in
       let a : 0 < 3 = omega arith in
       let b : 0 < 2 = omega arith in
-      let m : d * 3 ≤ length times - from = omega arith in
+      let l = length-drop from times in
+      let m : d * 3 ≤ length (drop from times) = omega arith in
       let n : d * 2 ≤ length places = omega arith in
-      let f : leb from (length times) ≡ true = le-leb from (length times) (omega arith) in
-      let g : leb d ((length times - from) / 3) ≡ true = le-leb d ((length times - from) / 3) ((le-div_iff_mul-le {x = d} {y = length times - from} a).1 m) in
+      let g : leb d (length (drop from times) / 3) ≡ true = le-leb d (length (drop from times) / 3) ((le-div_iff_mul-le {x = d} {y = length (drop from times)} a).1 m) in
       let h : leb d (length places / 2) ≡ true = le-leb d (length places / 2) ((le-div_iff_mul-le {x = d} {y = length places} b).1 n) in
-      rw (f, g, h) refl
+      rw (g, h) refl
 
-  -- ---- behind pass 1
-  module _ {built : Result ℕ Refusal} {times' : List Float} {places' : List ℕ}
-      (is : Answers c.clock_depth (pass_over c.pcr_pid c.clock_depth from times places (parses_from y l 0 count)) built times' places') where
-    shallow : c.clock_depth ≤ 2 ^ 20
+  -- ---- behind pass 1: before and after are the clock's floats and numbers, and work is what stands before the floats
+  module _ (before after : IntervalsMut) (work : List Float) (e-depth : before.depth ≡ c.clock_depth) (e-times : before.times.now ≡ drop from times) (e-places : before.places.now ≡ places)
+      {built : Result ℕ Refusal} (is : Answers (pass_over c.pcr_pid before.depth before.times.now before.places.now (parses_from y l 0 count)) built before after) where
+    shallow : before.depth ≤ 2 ^ 20
     shallow = omega (arith, fit.within.clock_depth.most)
+
+    room : holds before.depth before.times.now before.places.now ≡ true
+    room = rw (e-depth, e-times, e-places) clock_room
 
     short : 188 * count < 2 ^ 63
     short = omega (arith, packets_few)
@@ -141,30 +154,31 @@ module _ (c : TStdConfig) (l : List ℕ) (y : TsPacketLayout) (times : List Floa
     pub refused_at : {x : Refusal} → built ≡ Err x → with_layout c read (Some y) ≡ refused_with x
     unfolding with_layout with_clock
     refused_at {x} e =
-        let b : build c.clock_depth (samples_read c read) ≡ refused x =
-        rw samples_are (build_refused y l count c.pcr_pid c.clock_depth times from places is shallow clock_room short e) in
+        let b : build c.clock_depth (samples_read c read) ≡ Err x =
+        rw (← e-depth, samples_are) (build_refused y l count c.pcr_pid is shallow room short e) in
         rw b refl
 
     -- what is not needed of the work is as it was
-    pub times_kept : zeroed 0f (needed_of c).times times' ≡ zeroed 0f (needed_of c).times times
+    times_kept : (w : List Float) → length w ≡ from → zeroed 0f (needed_of c).times (w ++ after.times.now) ≡ zeroed 0f (needed_of c).times times
     unfolding needed_of
-    times_kept =
-        let k = build_keeps y l count c.pcr_pid c.clock_depth times from places is in
-        zeroed_behind 0f _ times' times k.times_length k.behind
+    times_kept w e =
+        let k = build_keeps y l count c.pcr_pid is in
+        let same : drop (3 * c.clock_depth) after.times.now ≡ drop (3 * c.clock_depth) (drop from times) = rw (← e-depth, ← e-times) k.behind in
+        zeroed_parts 0f w after.times.now times from (3 * c.clock_depth) e (k.times_length ∙ ap length e-times) parts same
 
-    pub places_kept : zeroed 0 (needed_of c).places places' ≡ zeroed 0 (needed_of c).places places
+    pub places_kept : zeroed 0 (needed_of c).places after.places.now ≡ zeroed 0 (needed_of c).places places
     unfolding needed_of
     places_kept =
-        let k = build_keeps y l count c.pcr_pid c.clock_depth times from places is in
-        zeroed_behind 0 _ places' places k.places_length k.places_behind
+        let k = build_keeps y l count c.pcr_pid is in
+        zeroed_behind 0 _ after.places.now places (k.places_length ∙ ap length e-places) (rw (← e-depth, ← e-places) k.places_behind)
 
-    pub clock_refused : {a : Result Answer Refusal} {x : Refusal} → built ≡ Err x → a ≡ Err x → ReplayedAt c l y times places a times' places'
+    pub clock_refused : {a : Result Answer Refusal} {x : Refusal} (w : List Float) → length w ≡ from → built ≡ Err x → a ≡ Err x → ReplayedAt c l y times places a (w ++ after.times.now) after.places.now
     unfolding answered
-    clock_refused e r = record { outcome = rw (refused_at e) r; times_are = times_kept; places_are = places_kept }
+    clock_refused w m e r = record { outcome = rw (refused_at e) r; times_are = times_kept w m; places_are = places_kept }
 
     module _ (n : ℕ) (e : built ≡ Ok n) where
-      counted : Counted c.clock_depth (length (samples_of c.pcr_pid (parses_from y l 0 count))) n
-      counted = build_counted y l count c.pcr_pid c.clock_depth times from places is shallow clock_room short n e
+      counted : Counted before.depth (length (samples_of c.pcr_pid (parses_from y l 0 count))) n
+      counted = build_counted y l count c.pcr_pid is shallow room short n e
 
       pub some_intervals : 0 < n
       some_intervals = omega (arith, counted.two, counted.one_fewer)
@@ -173,64 +187,62 @@ module _ (c : TStdConfig) (l : List ℕ) (y : TsPacketLayout) (times : List Floa
       pub intervals_few : n ≤ 3000
       intervals_few = omega (arith, counted.one_fewer, counted.within_depth, fit.within.clock_depth.most)
 
-      abbrev pass : Pass
-      pass = pass_of c l y count times' places' n
+      -- t and p are the clock's floats and numbers as pass 2 reads them
+      module _ (t : List Float) (p : List ℕ) (e-t : t ≡ after.times.now) (e-p : p ≡ after.places.now) (long : length work ≡ from) where
+        abbrev pass : Pass
+        pass = record { config = c; recording = l; layout = y; count = count; work = work; times = t; places = p; last = n - 1 }
 
-      same_count : suc (n - 1) ≡ n
-      same_count = omega (arith, some_intervals)
+        same_count : suc (n - 1) ≡ n
+        same_count = omega (arith, some_intervals)
 
-      pub ready : Ready pass
-      ready =
-          record {
-            few = fit.within.stream_count;
-            slots = fit.slots;
-            some_depth = omega (arith, fit.within.queue_depth.least);
-            depth_few = fit.within.queue_depth.most;
-            room = rw same_count (build_room y l count c.pcr_pid c.clock_depth times from places is shallow clock_room short n e);
-            window = layouts.known_room known;
-            size_few = (layouts.known_size known).1;
-            whole = refl;
-            long = fit.long;
-            within = rw same_count (build_bounded y l count c.pcr_pid c.clock_depth times from places is shallow clock_room short n e packets_few);
-          }
+        pub ready : Ready pass
+        ready =
+            record {
+              few = fit.within.stream_count;
+              slots = fit.slots;
+              some_depth = omega (arith, fit.within.queue_depth.least);
+              depth_few = fit.within.queue_depth.most;
+              parts = omega arith;
+              room = rw (same_count, e-t, e-p) (build_room y l count c.pcr_pid is shallow room short n e);
+              window = layouts.known_room known;
+              size_few = (layouts.known_size known).1;
+              whole = refl;
+              long = fit.long;
+              within = rw (same_count, e-t, e-p) (build_bounded y l count c.pcr_pid is shallow room short n e packets_few);
+            }
 
-      pub runs_at : with_layout c read (Some y) ≡ whole pass (n + 1)
-      unfolding with_layout with_clock from_packet
-      runs_at =
-          let clock = intervals_in times' from places' 0 n in
-          let b : build c.clock_depth (samples_read c read) ≡ intervals clock =
-          rw samples_are (build_intervals y l count c.pcr_pid c.clock_depth times from places is shallow clock_room short n e) in
-          let s : length (samples_read c read) ≡ n + 1 = ap length samples_are ∙ sym counted.one_fewer in
-          let z : count - 0 ≡ count = omega arith in
-          rw (b, s, facts_are, same_count, z) refl
+        pub runs_at : with_layout c read (Some y) ≡ whole pass (n + 1)
+        unfolding with_layout with_clock from_packet
+        runs_at =
+            let b : build c.clock_depth (samples_read c read) ≡ Ok (intervals_in after.times.now after.places.now 0 n) =
+            rw (← e-depth, samples_are) (build_intervals y l count c.pcr_pid is shallow room short n e) in
+            let s : length (samples_read c read) ≡ n + 1 = ap length samples_are ∙ sym counted.one_fewer in
+            let z : count - 0 ≡ count = omega arith in
+            rw (b, s, facts_are, same_count, e-t, e-p, z) refl
 
-      -- ---- behind pass 2
-      module _ {result : Result RanState Refusal} {times'' : List Float} (to : RanTo pass result times'') where
-        work_kept : zeroed 0f (needed_of c).times times'' ≡ zeroed 0f (needed_of c).times times
-        unfolding needed_of
-        work_kept = zeroed_outside (outside_wider (omega arith) (omega arith) to.outside) ∙ times_kept
+        -- ---- behind pass 2
+        module _ {result : Result RanState Refusal} {work' : List Float} (to : RanTo pass result work') where
+          pub queue_refused : {a : Result Answer Refusal} {x : Refusal} → result ≡ Err x → a ≡ Err x → ReplayedAt c l y times places a (work' ++ after.times.now) after.places.now
+          unfolding answered
+          queue_refused {a} {x} f p = record { outcome = rw (runs_at, to.refused x f (n + 1)) p; times_are = times_kept work' (to.work_size ∙ long); places_are = places_kept }
 
-        pub queue_refused : {a : Result Answer Refusal} {x : Refusal} → result ≡ Err x → a ≡ Err x → ReplayedAt c l y times places a times'' places'
-        unfolding answered
-        queue_refused {a} {x} f p = record { outcome = rw (runs_at, to.refused x f (n + 1)) p; times_are = work_kept; places_are = places_kept }
+          report_is : (ran : RanState) (f : Finished pass to.ready ran work') → report_in c ran (n + 1) ≡ report_of c (n + 1) f.state
+          unfolding report_in report_of
+          report_is ran f = rw (report_lines pass to.ready fit.within ran f.state f.reached f.at.system_tb f.at.slots, f.at.first, f.at.last) refl
 
-        report_is : (ran : RanState) (f : Finished pass to.ready ran times'') → report_in c ran (n + 1) ≡ report_of c (n + 1) f.state
-        unfolding report_in report_of
-        report_is ran f = rw (report_lines pass to.ready fit.within ran f.state f.reached f.at.system_tb f.at.slots, f.at.first, f.at.last) refl
+          accepted_is : (ran : RanState) (f : Finished pass to.ready ran work') → Ok (accepted_of c ran (n + 1)) ≡ answered (finished c (clock_of pass) (n + 1) y l count f.state)
+          unfolding accepted_of answered
+          accepted_is ran f =
+              rw (
+                report_is ran f,
+                rows_are c f.state ran.chains work' c.queue_depth _ ran.system f.at.chains f.at.system_tb f.at.system_branch,
+              )
+              refl
 
-        accepted_is : (ran : RanState) (f : Finished pass to.ready ran times'') → Ok (accepted_of c ran (n + 1)) ≡ answered (finished c (clock_of pass) (n + 1) y l count f.state)
-        unfolding accepted_of answered
-        accepted_is ran f =
-            rw (
-              report_is ran f,
-              rows_are c f.state ran.tbs ran.mains ran.videos times'' c.queue_depth _ ran.system f.at.chains f.at.system_tb f.at.system_branch,
-            )
-            refl
-
-        pub passes_accepted : {ran : RanState} {a : Answer} → result ≡ Ok ran → a ≡ accepted_of c ran (n + 1) → ReplayedAt c l y times places (Ok a) times'' places'
-        passes_accepted {ran} f r =
-            let x = to.finishes ran f in
-            record { outcome = ap Ok r ∙ accepted_is ran x ∙ ap answered (sym (runs_at ∙ x.outcome (n + 1))); times_are = work_kept; places_are = places_kept }
+          pub passes_accepted : {ran : RanState} {a : Answer} → result ≡ Ok ran → a ≡ accepted_of c ran (n + 1) → ReplayedAt c l y times places (Ok a) (work' ++ after.times.now) after.places.now
+          passes_accepted {ran} f r =
+              let x = to.finishes ran f in
+              record { outcome = ap Ok r ∙ accepted_is ran x ∙ ap answered (sym (runs_at ∙ x.outcome (n + 1))); times_are = times_kept work' (to.work_size ∙ long); places_are = places_kept }
 
 -- ---- the whole replay
 

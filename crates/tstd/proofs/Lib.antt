@@ -1,6 +1,5 @@
 -- The laws of pass 2, and of the replay around it.
 pub mod Rest
-pub mod ClockKept
 pub mod ChainIs
 pub mod Buffers
 pub mod Owning

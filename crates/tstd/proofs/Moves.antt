@@ -12,7 +12,7 @@ use Rattle.header.specs.declared.PacketHeader.{PacketHeader}
 use Rattle.header.proofs.Headers.{Fails}
 use Rattle.scanner.specs.declared.Runs.{Runs}
 use Rattle.scanner.specs.Unit.{Open, next_open, runs_in}
-use Rattle.scanner.specs.State.{idle, scanner_of}
+use Rattle.scanner.specs.State.{scanner_of}
 use Rattle.recording.specs.Read.{parsed, is_stream, packet_at, payload_in, opens_at, fact_at}
 use Rattle.recording.proofs.Facts.{opens_own, opens_other, fact_stream, fact_other}
 use Rattle.arrival.specs.declared.PacketArrival.{PacketArrival}
@@ -38,8 +38,6 @@ use Rattle.transport.specs.declared.Arrived.{Arrived}
 use Rattle.transport.specs.Arrive.{nothing, stamp_time, arrive}
 use Rattle.transport.specs.Transport.{Transport, Passed, arrived_of}
 use Rattle.transport.proofs.Arrivals.{Extendable, within_extendable, arrive_scanner, arrive_tb, arrive_delivered}
-use Rattle.branch.specs.declared.main_branch.MainBranch.{MainBranch}
-use Rattle.branch.specs.declared.video_branch.VideoBranch.{VideoBranch}
 use Rattle.branch.specs.declared.Delivered.{Delivered}
 use Rattle.profile.specs.declared.model.TStdBranch.{TStdBranch}
 use Rattle.model.specs.Chain.{Branch, step_branch, Stepped, packet_step, tb_events, end_step}
@@ -47,14 +45,15 @@ use Rattle.model.specs.Replay as definition
 use Rattle.model.specs.Replay.{State, stream_at, chain_at, streams_read, stepped, owned_step, system_step, fact_step}
 use Rattle.tstd.specs.declared.times.Times.{Times}
 use Rattle.tstd.specs.declared.front.SystemChain.{SystemChain}
-use Rattle.tstd.specs.InWork.{unused_tb}
+use Rattle.tstd.specs.declared.chain.Chain.{Chain}
+use Rattle.tstd.specs.Chain.{unused_chain, scanned, arrived}
 use Rattle.tstd.specs.Times.{next_times}
 use Rattle.tstd.specs.Front.{system_run, system_pushed}
-use Rattle.tstd.specs.Run.{Pass, stream_count, depth_of, clock_from, clock_of, Ready, step_of, At}
+use Rattle.tstd.specs.Run.{Pass, stream_count, depth_of, clock_of, Ready, step_of, At}
 use Rattle.tstd.proofs.ChainIs.{chain_more}
 use Rattle.tstd.proofs.Steps.{PacketIs, Arrives, packet_few, arrives, step_packet, step_end_at, step_unparsed, unparsed_opens, stream_used}
 use Rattle.tstd.proofs.Turns.{Turned, noted_more, Moves}
-use Rattle.tstd.proofs.Scanned.{FrontOf}
+use Rattle.tstd.proofs.Scanned.{front_is}
 
 -- the streams by which a recording is read are those of the profile
 contains_member : (l : List ℕ) (x : ℕ) → contains l x ≡ member x l
@@ -85,18 +84,18 @@ clock_within g ready p = covering_within p _ _ ready.within
 same_step : (m : TStdBranch) (depth : ℕ) (b : Branch) {d d' : Delivered} {end end' : Bool} {t t' : Float} → d ≡ d' → end ≡ end' → t ≡ t' → step_branch m depth d end t b ≡ step_branch m depth d' end' t' b
 same_step m depth b e f h = rw (e, f, h) refl
 
-module _ (g : Pass) (ready : Ready g) (k : ℕ) (w : List Float) (ts : List FluidFifo) (ss : List PesScanner) (ms : List MainBranch) (vs : List VideoBranch) (system : SystemChain) (times times' : Times) (sl : Slots) (s : State) (header : Option PacketHeader)
-    (now : At g ready k w ts ss ms vs system times sl s) (next : times' ≡ next_times header (next_arrival w (clock_from g) g.places (suc g.last) times.arrival) times) (h : k < g.count) where
+module _ (g : Pass) (ready : Ready g) (k : ℕ) (w : List Float) (cs : List Chain) (system : SystemChain) (times times' : Times) (sl : Slots) (s : State) (header : Option PacketHeader)
+    (now : At g ready k w cs system times sl s) (next : times' ≡ next_times header (next_arrival g.times g.places (suc g.last) times.arrival) times) (h : k < g.count) where
   -- ---- a packet that parses
   module _ (y : PacketHeader) (is : header ≡ Some y) (p : PacketIs g k y) where
     abbrev x : TsPacket
     x = p.packet
 
     abbrev coming : PacketArrival
-    coming = next_arrival w (clock_from g) g.places (suc g.last) times.arrival
+    coming = next_arrival g.times g.places (suc g.last) times.arrival
 
     come : Arrives g ready k coming
-    come = arrives g ready k w times.arrival h now.outside (now.arrival (omega arith))
+    come = arrives g ready k times.arrival h (now.arrival (omega arith))
 
     times_are : times' ≡ record { arrival = coming; first_time = min_of times.first_time coming.t0; last_time = max_of times.last_time coming.t1 }
     unfolding next_times
@@ -113,7 +112,7 @@ module _ (g : Pass) (ready : Ready g) (k : ℕ) (w : List Float) (ts : List Flui
     unfolding definition.timed
     last_is = ap (λ (z : Times). z.last_time) times_are ∙ rw (now.last, come.t1) refl
 
-    arrival_at_lem : AtEnd g.work (clock_from g) g.places g.last ready.room (suc k) times'.arrival
+    arrival_at_lem : AtEnd g.times g.places g.last ready.room (suc k) times'.arrival
     arrival_at_lem = rw times_are come.at
 
     step_owned : (r : Runs) → fact_at g.layout (streams_read g.config) g.recording k ≡ parsed x r
@@ -122,13 +121,13 @@ module _ (g : Pass) (ready : Ready g) (k : ℕ) (w : List Float) (ts : List Flui
     step_owned r e = step_packet g k s h ∙ rw e refl
 
     -- of a stream
-    module _ (i : ℕ) (o : owner_of g.config x.pid ≡ Owner.Stream i) (t' : FluidFifo) (s' : PesScanner) (d : Delivered)
-        (f : FrontOf (get_or ts i unused_tb) (get_or ss i idle) (packet_at g.layout g.recording k) y times'.arrival t' s' d) where
+    module _ (i : ℕ) (o : owner_of g.config x.pid ≡ Owner.Stream i) (d : Arrived) (s' : PesScanner)
+        (is-d : d ≡ arrived (get_or cs i unused_chain) (packet_at g.layout g.recording k) y times'.arrival) (is-s : s' ≡ (scanned (get_or cs i unused_chain).scanner (packet_at g.layout g.recording k) y).scanner) where
       abbrev old : Transport
-      old = record { tb = get_or ts i unused_tb; scanner = get_or ss i idle }
+      old = record { tb = (get_or cs i unused_chain).tb; scanner = (get_or cs i unused_chain).scanner }
 
       abbrev a : Passed
-      a = record { transport = record { tb = t'; scanner = s' }; delivered = d }
+      a = record { transport = record { tb = d.tb; scanner = s' }; delivered = d.delivered }
 
       slot_is : OwnerSlot g.config x.pid i
       slot_is = owner_slot g.config x.pid i o
@@ -145,7 +144,7 @@ module _ (g : Pass) (ready : Ready g) (k : ℕ) (w : List Float) (ts : List Flui
       abbrev runs : Runs
       runs = runs_in (next_open before x.payload_unit_start payload) (length payload)
 
-      keeps : get_or ss i idle ≡ scanner_of before
+      keeps : (get_or cs i unused_chain).scanner ≡ scanner_of before
       keeps = now.scanners (omega arith) i slot_is.counted owns ∙ ap (λ (q : ℕ). scanner_of (opens_at g.layout g.recording k q)) slot_is.pid_there
 
       fact_is : fact_at g.layout (streams_read g.config) g.recording k ≡ parsed x runs
@@ -159,7 +158,7 @@ module _ (g : Pass) (ready : Ready g) (k : ℕ) (w : List Float) (ts : List Flui
 
       arrives_so : a ≡ arrived_now
       arrives_so =
-          f.is before keeps (packet_few g.layout g.recording k) (rw p.header (packet-bounds.parsed _ x p.parse).start_high)
+          front_is (get_or cs i unused_chain) (packet_at g.layout g.recording k) y times'.arrival before keeps (packet_few g.layout g.recording k) (rw p.header (packet-bounds.parsed _ x p.parse).start_high) d s' is-d is-s
           ∙ ap
           (λ (z : PacketHeader).
           arrived_of old (packet_at g.layout g.recording k) z.payload_start z.payload_unit_start times'.arrival.t0 times'.arrival.t1 times'.arrival.cursor.interval)
@@ -175,16 +174,16 @@ module _ (g : Pass) (ready : Ready g) (k : ℕ) (w : List Float) (ts : List Flui
       abbrev theirs : Arrived
       theirs = arrive (chain_at g.config s i).tb x.payload_start runs (arrival_at (clock_of g) (188 * k)) (arrival_at (clock_of g) (188 * k + 188)) (stamp_time (covering (188 * k + 188) (clock_of g)) runs.decode_ts)
 
-      tb_is : get_or ts i unused_tb ≡ (chain_at g.config s i).tb
+      tb_is : (get_or cs i unused_chain).tb ≡ (chain_at g.config s i).tb
       tb_is = (now.chains i slot_is.counted).tb
 
-      arrived_tb : t' ≡ theirs.tb
+      arrived_tb : d.tb ≡ theirs.tb
       arrived_tb =
           ap (λ (z : Passed). z.transport.tb) arrives_so
           ∙ arrive_tb old before keeps _ _ _ _ _ _ extendable
           ∙ rw (tb_is, come.t0, come.t1, come.interval) refl
 
-      arrived_delivered : d ≡ theirs.delivered
+      arrived_delivered : d.delivered ≡ theirs.delivered
       arrived_delivered =
           ap (λ (z : Passed). z.delivered) arrives_so
           ∙ arrive_delivered old before keeps _ _ _ _ _ _ extendable
@@ -194,8 +193,8 @@ module _ (g : Pass) (ready : Ready g) (k : ℕ) (w : List Float) (ts : List Flui
       start_is = ap (λ (z : Times). z.arrival.t0) times_are ∙ come.t0
 
       step_stream : (st : Stepped)
-          → st ≡ step_branch (stream_at g.config i).model.branch (depth_of g) d false times'.arrival.t0 (chain_at g.config s i).branch
-          → step_of g k s ≡ stepped g.config i timed (record { full = st.full; chain = record { tb = t'; branch = st.branch }; events = [] ++ st.events })
+          → st ≡ step_branch (stream_at g.config i).model.branch (depth_of g) d.delivered false times'.arrival.t0 (chain_at g.config s i).branch
+          → step_of g k s ≡ stepped g.config i timed (record { full = st.full; chain = record { tb = d.tb; branch = st.branch }; events = [] ++ st.events })
       unfolding owned_step packet_step definition.timed
       step_stream st e =
           let e' : st ≡ step_branch (stream_at g.config i).model.branch (depth_of g) theirs.delivered false (arrival_at (clock_of g) (188 * k)) (chain_at g.config s i).branch =
@@ -203,7 +202,7 @@ module _ (g : Pass) (ready : Ready g) (k : ℕ) (w : List Float) (ts : List Flui
           ∙ same_step (stream_at g.config i).model.branch (depth_of g) (chain_at g.config s i).branch arrived_delivered refl start_is in
           step_owned runs fact_is ∙ rw (o, arrived_tb, e') refl
 
-      pub packet_moves : Moves g ready k s i t' s' d false times'.arrival.t0 times' sl sl
+      pub packet_moves : Moves g ready k s i d.tb s' d.delivered false times'.arrival.t0 times' sl sl
       unfolding definition.timed noted_all
       packet_moves =
           record {
@@ -234,18 +233,15 @@ module _ (g : Pass) (ready : Ready g) (k : ℕ) (w : List Float) (ts : List Flui
           let z = pushed s.sys_tb (arrival_at (clock_of g) (188 * k)) (arrival_at (clock_of g) (188 * k + 188)) 188f in
           record { t0 = z.start; t1 = z.end; bytes = 188f }
 
-      pub system_turns : Turned g ready k s w ts ss ms vs system' times' sl'
+      pub system_turns : Turned g ready k s w cs system' times' sl'
       unfolding system_pushed system_step definition.timed owned_step
       system_turns =
           record {
             state = system_step g.config (clock_of g) (188 * k) timed;
             step = step_owned _ (fact_other g.layout g.recording k x p.parse (streams_read g.config) off) ∙ rw o refl;
             at = record {
-              outside = now.outside;
-              ts_size = now.ts_size;
-              ss_size = now.ss_size;
-              ms_size = now.ms_size;
-              vs_size = now.vs_size;
+              work_size = now.work_size;
+              size = now.size;
               chains_size = now.chains_size;
               chains = λ j l. chain_more (now.chains j l) (omega arith);
               scanners = λ c j l r. now.scanners (omega arith) j l r ∙ ap scanner_of (sym (opens_other g.layout g.recording k x p.parse _ (λ z. not_system g.config x.pid j r (ap ownership.is_stream o) z)));
@@ -262,18 +258,15 @@ module _ (g : Pass) (ready : Ready g) (k : ℕ) (w : List Float) (ts : List Flui
           off = read_stream g.config x.pid ∙ ap ownership.is_stream o
 
     -- of nobody
-    pub nobody_turns : owner_of g.config x.pid ≡ Owner.Nobody → Turned g ready k s w ts ss ms vs system times' sl
+    pub nobody_turns : owner_of g.config x.pid ≡ Owner.Nobody → Turned g ready k s w cs system times' sl
     unfolding definition.timed owned_step
     nobody_turns o =
         record {
           state = timed;
           step = step_owned _ (fact_other g.layout g.recording k x p.parse (streams_read g.config) (read_stream g.config x.pid ∙ ap ownership.is_stream o)) ∙ rw o refl;
           at = record {
-            outside = now.outside;
-            ts_size = now.ts_size;
-            ss_size = now.ss_size;
-            ms_size = now.ms_size;
-            vs_size = now.vs_size;
+            work_size = now.work_size;
+            size = now.size;
             chains_size = now.chains_size;
             chains = λ j l. chain_more (now.chains j l) (omega arith);
             scanners = λ c j l r. now.scanners (omega arith) j l r ∙ ap scanner_of (sym (opens_other g.layout g.recording k x p.parse _ (λ z. not_system g.config x.pid j r (ap ownership.is_stream o) z)));
@@ -287,18 +280,15 @@ module _ (g : Pass) (ready : Ready g) (k : ℕ) (w : List Float) (ts : List Flui
         }
 
   -- ---- a packet that does not parse
-  pub unparsed_turns : Fails (parse_of (packet_at g.layout g.recording k)) → header ≡ None → Turned g ready k s w ts ss ms vs system times' sl
+  pub unparsed_turns : Fails (parse_of (packet_at g.layout g.recording k)) → header ≡ None → Turned g ready k s w cs system times' sl
   unfolding next_times
   unparsed_turns f e =
       record {
         state = s;
         step = step_unparsed g k s h f;
         at = record {
-          outside = now.outside;
-          ts_size = now.ts_size;
-          ss_size = now.ss_size;
-          ms_size = now.ms_size;
-          vs_size = now.vs_size;
+          work_size = now.work_size;
+          size = now.size;
           chains_size = now.chains_size;
           chains = λ j l. chain_more (now.chains j l) (omega arith);
           scanners = λ c j l r. now.scanners (omega arith) j l r ∙ ap scanner_of (sym (unparsed_opens g k s f _));
@@ -307,16 +297,16 @@ module _ (g : Pass) (ready : Ready g) (k : ℕ) (w : List Float) (ts : List Flui
           first = ap (λ (z : Times). z.first_time) are ∙ now.first;
           last = ap (λ (z : Times). z.last_time) are ∙ now.last;
           slots = now.slots;
-          arrival = λ c. rw are (arrives g ready k w times.arrival h now.outside (now.arrival (omega arith))).at;
+          arrival = λ c. rw are (arrives g ready k times.arrival h (now.arrival (omega arith))).at;
         };
       }
     where
-      are : times' ≡ record { arrival = next_arrival w (clock_from g) g.places (suc g.last) times.arrival; first_time = times.first_time; last_time = times.last_time }
+      are : times' ≡ record { arrival = next_arrival g.times g.places (suc g.last) times.arrival; first_time = times.first_time; last_time = times.last_time }
       are = next ∙ rw e refl
 
 -- ---- the end of stream i
-module _ (g : Pass) (ready : Ready g) (i : ℕ) (w : List Float) (ts : List FluidFifo) (ss : List PesScanner) (ms : List MainBranch) (vs : List VideoBranch) (system : SystemChain) (times : Times) (sl : Slots) (s : State)
-    (now : At g ready (g.count + i) w ts ss ms vs system times sl s) (used : i < stream_count g) (t : FluidFifo) (is-t : t ≡ get_or ts i unused_tb) (sl₁ : Slots) (noted : sl₁ ≡ noted_all (1 + 6 * i) (tb_events t) sl) where
+module _ (g : Pass) (ready : Ready g) (i : ℕ) (w : List Float) (cs : List Chain) (system : SystemChain) (times : Times) (sl : Slots) (s : State)
+    (now : At g ready (g.count + i) w cs system times sl s) (used : i < stream_count g) (t : FluidFifo) (x : PesScanner) (is-t : t ≡ (get_or cs i unused_chain).tb) where
   tb_here : t ≡ (chain_at g.config s i).tb
   tb_here = is-t ∙ (now.chains i used).tb
 
@@ -326,7 +316,7 @@ module _ (g : Pass) (ready : Ready g) (i : ℕ) (w : List Float) (ts : List Flui
   unfolding end_step
   step_ends st z = step_end_at g i s ∙ rw (stream_used g i used, tb_here, z) refl
 
-  pub end_moves : Moves g ready (g.count + i) s i t (get_or ss i idle) nothing true 0f times sl sl₁
+  pub end_moves : Moves g ready (g.count + i) s i t x nothing true 0f times sl (noted_all (1 + 6 * i) (tb_events t) sl)
   end_moves =
       record {
         in_use = used;
@@ -338,7 +328,7 @@ module _ (g : Pass) (ready : Ready g) (i : ℕ) (w : List Float) (ts : List Flui
         events = refl;
         first = now.first;
         last = now.last;
-        noted = noted;
+        noted = refl;
         step = step_ends;
         arrival = λ c. absurd (omega arith);
         own = λ c r. absurd (omega arith);

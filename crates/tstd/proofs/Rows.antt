@@ -8,24 +8,17 @@ use Rattle.report.specs.declared.TStdChainStats.{TStdChainStats}
 use Rattle.report.specs.Report.{empty_stats}
 use Rattle.answer.specs.declared.Figures.{Figures}
 use Rattle.answer.specs.Answer.{figures_of}
-use Rattle.branch.specs.declared.main_branch.MainModel.{MainModel}
-use Rattle.branch.specs.declared.main_branch.MainBranch.{MainBranch}
-use Rattle.branch.specs.declared.video_branch.VideoModel.{VideoModel}
-use Rattle.branch.specs.declared.video_branch.VideoBranch.{VideoBranch}
-use Rattle.branch.specs.MainInWork as main-work
-use Rattle.branch.specs.VideoInWork as video-work
-use Rattle.profile.specs.declared.model.TStdBranch.{TStdBranch}
 use Rattle.profile.specs.declared.config.TStdConfig.{TStdConfig}
 use Rattle.profile.specs.declared.config.TStdStream.{TStdStream}
 use Rattle.profile.specs.Config.{streams_of, unused_stream}
-use Rattle.fifo.specs.declared.FluidFifo.{FluidFifo}
-use Rattle.model.specs.Chain.{Chain, new_chain, stats_of, whole}
+use Rattle.model.specs.Chain.{new_chain, stats_of}
 use Rattle.model.specs.Replay.{State, stream_stats, system_stats}
 use Rattle.tstd.specs.declared.front.SystemChain.{SystemChain}
-use Rattle.tstd.specs.declared.stream.StreamModel.{StreamModel}
-use Rattle.tstd.specs.InWork.{model_by, unused_tb, ChainIs}
-use Rattle.tstd.specs.Figures.{row_by, stream_row, rows_from, system_row, system_rows}
-use Rattle.tstd.proofs.ChainIs.{stats_main, stats_video}
+use Rattle.tstd.specs.declared.chain.Chain.{Chain}
+use Rattle.tstd.specs.Chain.{unused_chain}
+use Rattle.tstd.specs.InWork.{ChainIs}
+use Rattle.tstd.specs.Figures.{stream_row, rows_from, system_row, system_rows}
+use Rattle.tstd.proofs.ChainIs.{row_is}
 
 -- ---- the array of rows
 
@@ -56,24 +49,22 @@ get_d_any [] i d d' h = absurd (omega arith)
 get_d_any (x ∷ l) zero d d' h = refl
 get_d_any (x ∷ l) (suc i) d d' h = get_d_any l i d d' (omega arith)
 
-module _ (ts : List FluidFifo) (bs : List MainBranch) (vs : List VideoBranch) where
+module _ (cs : List Chain) where
   -- the row of stream i
   abbrev pub row_at : TStdStream → ℕ → TStdChainStats
-  row_at s i = stream_row s (get_or ts i unused_tb) (get_or bs i main-work.new_branch) (get_or vs i video-work.new_branch)
+  row_at s i = stream_row s.pid (get_or cs i unused_chain)
 
   -- as the code reads it, with what an array gives behind its end
-  pub row_read : (s : TStdStream) (i : ℕ) (t : FluidFifo) (b : MainBranch) (v : VideoBranch) (x : TStdChainStats) → i < length ts → i < length bs → i < length vs
-      → x ≡ stream_row s (get_or ts i t) (get_or bs i b) (get_or vs i v) → x ≡ row_at s i
-  row_read s i t b v x ht hb hv e =
-      e ∙ rw (get_d_any ts i t unused_tb ht, get_d_any bs i b main-work.new_branch hb, get_d_any vs i v video-work.new_branch hv)
+  pub row_read : (s : TStdStream) (i : ℕ) (c : Chain) (x : TStdChainStats) → i < length cs → x ≡ stream_row s.pid (get_or cs i c) → x ≡ row_at s i
+  row_read s i c x h e = e ∙ rw (get_d_any cs i c unused_chain h)
 
-  pub rows_length : (i : ℕ) (ss : List TStdStream) → length (rows_from i ss ts bs vs) ≡ length ss
+  pub rows_length : (i : ℕ) (ss : List TStdStream) → length (rows_from i ss cs) ≡ length ss
   unfolding rows_from
   rows_length i [] = refl
   rows_length i (s ∷ ss) = ap suc (rows_length (suc i) ss)
 
   -- one stream more
-  rows_append : (i : ℕ) (ss : List TStdStream) (s : TStdStream) → rows_from i (ss ++ s ∷ []) ts bs vs ≡ rows_from i ss ts bs vs ++ row_at s (i + length ss) ∷ []
+  rows_append : (i : ℕ) (ss : List TStdStream) (s : TStdStream) → rows_from i (ss ++ s ∷ []) cs ≡ rows_from i ss cs ++ row_at s (i + length ss) ∷ []
   unfolding rows_from
   rows_append i [] s = rw (add-zero i)
   rows_append i (x ∷ ss) s =
@@ -84,7 +75,7 @@ module _ (ts : List FluidFifo) (bs : List MainBranch) (vs : List VideoBranch) wh
   pub record Filled (streams : List TStdStream) (n i : ℕ) (rows : List TStdChainStats) : Type 0 where
     pub within : i ≤ n
     pub size : length streams ≡ 8
-    pub holds : Holds (rows_from 0 (take i streams) ts bs vs) rows
+    pub holds : Holds (rows_from 0 (take i streams) cs) rows
 
   module _ (streams : List TStdStream) (n : ℕ) (few : n ≤ 8) where
     pub filled_none : (x : TStdChainStats) → length streams ≡ 8 → x ≡ empty_stats 0 → Filled streams n 0 (replicate 9 x)
@@ -95,20 +86,20 @@ module _ (ts : List FluidFifo) (bs : List MainBranch) (vs : List VideoBranch) wh
     filled_next i rows x h e f =
         let l : length (take i streams) ≡ i = length-take-le i streams (omega (arith, f.size)) in
         let z : 0 + length (take i streams) ≡ i = omega arith in
-        let r : rows_from 0 (take (suc i) streams) ts bs vs ≡ rows_from 0 (take i streams) ts bs vs ++ x ∷ [] =
+        let r : rows_from 0 (take (suc i) streams) cs ≡ rows_from 0 (take i streams) cs ++ x ∷ [] =
         rw (take-suc streams i unused_stream (omega (arith, f.size)), rows_append 0 (take i streams) (get_or streams i unused_stream), e, z) in
         record {
           within = omega arith;
           size = f.size;
-          holds = rw (add-one i, r) (holds_next (rows_from 0 (take i streams) ts bs vs) rows i x (sym (rows_length 0 (take i streams) ∙ l)) (omega arith) f.holds);
+          holds = rw (add-one i, r) (holds_next (rows_from 0 (take i streams) cs) rows i x (sym (rows_length 0 (take i streams) ∙ l)) (omega arith) f.holds);
         }
 
-    pub filled_all : (i : ℕ) (rows : List TStdChainStats) → n ≤ i → Filled streams n i rows → Holds (rows_from 0 (take n streams) ts bs vs) rows
+    pub filled_all : (i : ℕ) (rows : List TStdChainStats) → n ≤ i → Filled streams n i rows → Holds (rows_from 0 (take n streams) cs) rows
     filled_all i rows h f =
         let e : i ≡ n = omega (arith, f.within) in
         rw e at f.holds
 
-    pub rows_count : length streams ≡ 8 → n ≡ length (rows_from 0 (take n streams) ts bs vs)
+    pub rows_count : length streams ≡ 8 → n ≡ length (rows_from 0 (take n streams) cs)
     rows_count e = sym (rows_length 0 (take n streams) ∙ length-take-le n streams (omega arith))
 
 -- ---- the system chain's row
@@ -128,54 +119,26 @@ module _ (c : TStdConfig) (s : SystemChain) (fs rows : List TStdChainStats) (n :
 
 -- ---- the chains of the definition
 
-row_by_lem : (m : TStdBranch) (p base depth : ℕ) (t : FluidFifo) (b : MainBranch) (v : VideoBranch) (r : TStdChainStats)
-    → ((q : MainModel) → model_by m base depth ≡ StreamModel.Main q
-    → r ≡ record {
-      pid = p;
-      peak_tb_bytes = whole t.peak;
-      peak_main_bytes = whole b.peak;
-      peak_eb_bytes = 0;
-      access_units = b.access_units;
-      max_delay_seconds = b.max_delay_seconds;
-    })
-    → ((q : VideoModel) → model_by m base depth ≡ StreamModel.Video q
-    → r ≡ record {
-      pid = p;
-      peak_tb_bytes = whole t.peak;
-      peak_main_bytes = whole v.leak.mb_peak;
-      peak_eb_bytes = whole v.leak.flow.eb_peak;
-      access_units = v.access_units;
-      max_delay_seconds = v.max_delay_seconds;
-    })
-    → row_by m p t b v ≡ r
-unfolding row_by model_by
-row_by_lem (TStdBranch.Main size) p base depth t b v r f g = sym (f _ refl)
-row_by_lem (TStdBranch.Video rbx mb eb) p base depth t b v r f g = sym (g _ refl)
-
-pub row_is : {w : List Float} {s : TStdStream} {base depth k : ℕ} {t : FluidFifo} {b : MainBranch} {v : VideoBranch} {x : Chain}
-    → ChainIs w s base depth k t b v x → stream_row s t b v ≡ stats_of s x
-row_is {s} {base} {depth} {t} {b} {v} {x} c = row_by_lem s.model.branch s.pid base depth t b v (stats_of s x) (stats_main c) (stats_video c)
-
-module _ (c : TStdConfig) (s : State) (ts : List FluidFifo) (bs : List MainBranch) (vs : List VideoBranch) where
+module _ (c : TStdConfig) (s : State) (cs : List Chain) where
   rows_from_lem : (i : ℕ) (ss : List TStdStream)
-      → ((j : ℕ) → j < length ss → row_at ts bs vs (get_or ss j unused_stream) (i + j) ≡ stats_of (get_or ss j unused_stream) (get_or s.chains (i + j) (new_chain unused_stream)))
-      → rows_from i ss ts bs vs ≡ stream_stats i ss c s
+      → ((j : ℕ) → j < length ss → row_at cs (get_or ss j unused_stream) (i + j) ≡ stats_of (get_or ss j unused_stream) (get_or s.chains (i + j) (new_chain unused_stream)))
+      → rows_from i ss cs ≡ stream_stats i ss c s
   unfolding rows_from stream_stats
   rows_from_lem i [] at = refl
   rows_from_lem i (x ∷ ss) at =
       let e : (j : ℕ) → suc i + j ≡ i + suc j = λ j. omega arith in
-      let a : row_at ts bs vs x i ≡ stats_of x (get_or s.chains i (new_chain unused_stream)) = rw (add-zero i) at (at 0 (omega arith)) in
+      let a : row_at cs x i ≡ stats_of x (get_or s.chains i (new_chain unused_stream)) = rw (add-zero i) at (at 0 (omega arith)) in
       rw (a, rows_from_lem (suc i) ss (λ j h. rw (e j) (at (suc j) (omega arith))))
 
   -- the rows are the figures of the definition's state s
   pub rows_are : (w : List Float) (depth k : ℕ) (system : SystemChain)
       → ((i : ℕ) → i < c.stream_count
-      → ChainIs w (get_or c.streams i unused_stream) (8 * depth * i) depth k (get_or ts i unused_tb) (get_or bs i main-work.new_branch) (get_or vs i video-work.new_branch) (get_or s.chains i (new_chain unused_stream)))
+      → ChainIs w (get_or c.streams i unused_stream) (8 * depth * i) depth k (get_or cs i unused_chain) (get_or s.chains i (new_chain unused_stream)))
       → system.tb ≡ s.sys_tb → system.branch ≡ s.sys
-      → rows_from 0 (streams_of c) ts bs vs ++ system_rows c system ≡ stream_stats 0 (streams_of c) c s ++ system_stats c s
+      → rows_from 0 (streams_of c) cs ++ system_rows c system ≡ stream_stats 0 (streams_of c) c s ++ system_stats c s
   unfolding system_rows system_row system_stats
   rows_are w depth k system chains e f =
-      let at : (j : ℕ) → j < length (streams_of c) → row_at ts bs vs (get_or (streams_of c) j unused_stream) (0 + j) ≡ stats_of (get_or (streams_of c) j unused_stream) (get_or s.chains (0 + j) (new_chain unused_stream)) =
+      let at : (j : ℕ) → j < length (streams_of c) → row_at cs (get_or (streams_of c) j unused_stream) (0 + j) ≡ stats_of (get_or (streams_of c) j unused_stream) (get_or s.chains (0 + j) (new_chain unused_stream)) =
       λ j h.
       let l : j < c.stream_count = omega (arith, length-take c.stream_count c.streams, min-le_left c.stream_count (length c.streams)) in
       rw (zero-add j, get_or-take c.stream_count c.streams j unused_stream l) (row_is (chains j l)) in

@@ -1,6 +1,5 @@
 -- A step of pass 2: the packet of a header, its arrival and its fact, and what the definition's step is.
 use Rattle.std.proofs.Common.{◌≡◌, ℕ, suc, ◌+◌, ◌-◌, ◌*◌, ◌/◌, ◌^◌, ◌<◌, ◌≤◌, Bool, true, false, cond, leb, List, [], length, get_or, take, drop, refl, ap, ◌∙◌, mul-le-mul_left, div-mul-le_self, arith, length-take, get_or-take, le-ltb, lt-ltb}
-use lib.Ieee.{Float}
 use Rattle.packet.specs.declared.TsPacket.{TsPacket}
 use Rattle.packet.specs.declared.TsError.{TsError}
 use Rattle.std.specs.Prelude.{Some, Result, Ok, Err}
@@ -15,13 +14,11 @@ use Rattle.recording.proofs.Facts.{opens_by, fact_by_lem}
 use Rattle.arrival.specs.declared.PacketArrival.{PacketArrival}
 use Rattle.arrival.specs.Times.{arrival_at, covering}
 use Rattle.arrival.specs.Work.{next_arrival}
-use Rattle.arrival.proofs.Covering.{AtEnd, end_interval}
-use Rattle.branch.specs.Queue.{SameOutside}
+use Rattle.arrival.proofs.Covering.{AtEnd, end_interval, next_arrives}
 use Rattle.profile.specs.Config.{streams_of, unused_stream}
 use Rattle.model.specs.Chain.{end_step}
 use Rattle.model.specs.Replay.{State, running, stream_at, chain_at, streams_read, stepped, fact_step}
-use Rattle.tstd.specs.Run.{Pass, stream_count, depth_of, clock_from, clock_of, Ready, step_of}
-use Rattle.tstd.proofs.ClockKept.{packet_arrives}
+use Rattle.tstd.specs.Run.{Pass, stream_count, depth_of, clock_of, Ready, step_of}
 
 -- the bytes that the loop takes from place `at` on are packet k's
 pub window_is : (g : Pass) (k at : ℕ) → at ≡ g.layout.sync_offset + k * g.layout.packet_size
@@ -51,7 +48,7 @@ module _ (g : Pass) (k : ℕ) (h : PacketHeader) where
 
 -- packet k comes from its first byte to its last, by the interval of its end
 pub record Arrives (g : Pass) (ready : Ready g) (k : ℕ) (x : PacketArrival) : Type 0 where
-  pub at : AtEnd g.work (clock_from g) g.places g.last ready.room (suc k) x
+  pub at : AtEnd g.times g.places g.last ready.room (suc k) x
   pub t0 : x.t0 ≡ arrival_at (clock_of g) (188 * k)
   pub t1 : x.t1 ≡ arrival_at (clock_of g) (188 * k + 188)
   pub interval : x.cursor.interval ≡ covering (188 * k + 188) (clock_of g)
@@ -66,20 +63,18 @@ module _ (g : Pass) (ready : Ready g) where
       let a : (n / d) * 188 ≤ (n / d) * d = mul-le-mul_left (n / d) (omega arith) in
       rw ready.whole (omega (arith, div-mul-le_self n d, ready.long))
 
-  pub arrives : (k : ℕ) (w : List Float) (x : PacketArrival) → k < g.count → SameOutside 0 (clock_from g) g.work w
-      → AtEnd g.work (clock_from g) g.places g.last ready.room k x → Arrives g ready k (next_arrival w (clock_from g) g.places (suc g.last) x)
-  arrives k w x h o at =
-      let r = next_arrival w (clock_from g) g.places (suc g.last) x in
+  pub arrives : (k : ℕ) (x : PacketArrival) → k < g.count → AtEnd g.times g.places g.last ready.room k x → Arrives g ready k (next_arrival g.times g.places (suc g.last) x)
+  arrives k x h at =
       let few = count_few in
-      let p = packet_arrives o (clock_from g) (omega arith) g.places g.last ready.room k x r (omega arith) at refl in
+      let p = next_arrives g.times g.places g.last ready.room k x (omega arith) at in
       let e : k + 1 ≡ suc k = omega arith in
       let f : 188 * suc k ≡ 188 * k + 188 = omega arith in
-      let a : AtEnd g.work (clock_from g) g.places g.last ready.room (suc k) r = rw e at p.0 in
+      let a : AtEnd g.times g.places g.last ready.room (suc k) (next_arrival g.times g.places (suc g.last) x) = rw e at p.0 in
       record {
         at = a;
         t0 = p.1;
         t1 = rw f at a.t1_is;
-        interval = rw f at (end_interval g.work (clock_from g) g.places g.last ready.room a);
+        interval = rw f at (end_interval g.times g.places g.last ready.room a);
       }
 
 -- a packet's window has 188 bytes or none

@@ -97,4 +97,4 @@ report_in c r samples =
 
 unfoldable pub accepted_of : TStdConfig → RanState → ℕ → Answer
 accepted_of c r samples =
-    accepted_answer (report_in c r samples) (rows_from 0 (streams_of c) r.tbs r.mains r.videos ++ system_rows c r.system)
+    accepted_answer (report_in c r samples) (rows_from 0 (streams_of c) r.chains ++ system_rows c r.system)

@@ -1,20 +1,12 @@
--- A packet before its branch, as the code sees it: whether a stream's scanner is fed, and the system chain.
-use Rattle.std.specs.Prelude.{Bool, ◌&&◌, ◌||◌, nat_lt}
+-- The system chain as the code holds it: before any packet, and behind one.
 use Rattle.ieee.specs.Binary64.{188f}
-use Rattle.header.specs.declared.PacketHeader.{PacketHeader}
 use Rattle.arrival.specs.declared.PacketArrival.{PacketArrival}
 use Rattle.branch.specs.declared.Run.{Run}
 use Rattle.branch.specs.SysBranch.{new_sys, rsys_of, push_sys}
 use Rattle.fifo.specs.FluidFifo.{new, pushed}
-use Rattle.scanner.specs.declared.PesScanner.{PesScanner}
-use Rattle.scanner.specs.State.{in_header}
 use Rattle.tstd.specs.declared.front.SystemChain.{SystemChain}
 
--- whether the scanner s is fed the payload: one that has bytes, where a header of a unit is in it or may be
-unfoldable pub scans_in : PesScanner → PacketHeader → Bool
-scans_in s h = nat_lt h.payload_start 188 && (h.payload_unit_start || in_header s)
-
--- the system chain: its transport buffer, of 1,000,000 bit/s, and Bsys behind it
+-- its transport buffer, of 1,000,000 bit/s, and Bsys behind it
 unfoldable pub new_system : SystemChain
 new_system = record { tb = new 1000000; branch = new_sys }
 

@@ -1,12 +1,12 @@
 // The replay of a recording through the T-STD buffer model (H.222.0, 2.4.2; the Rust's `analyze_tstd`).
 #![tactic(auto)]
 
+mod chain;
 mod figures;
 mod front;
 mod owners;
 mod run;
 mod skip;
-mod stream;
 mod times;
 
 ghost use Rattle.std.specs.Prelude.{◌≡◌, ◌<◌, ◌≤◌, if◌then◌else◌};
@@ -15,6 +15,7 @@ ghost use Rattle.ieee.specs.Binary64.{◌⊖◌, 0f};
 ghost use Rattle.tstd.specs.Core.{accepted_of, Fitting, ReplayedAt, Ended, Replayed};
 
 use answer::Answer;
+use arrival::{Intervals, IntervalsMut};
 use error::Refusal;
 use packet::TsPacketLayout;
 use profile::{Limits, TStdConfig, WorkSize};
@@ -43,14 +44,14 @@ fn accepted(config: TStdConfig, ran: Ran, samples: usize) -> Answer
     let mut report = summary::report_of(config, slots);
     report.pcr_samples = samples as u64;
     report.modelled_seconds = modelled_seconds(ran.times.first_time, ran.times.last_time);
-    let figures = figures::figures(config, ran.tbs, ran.mains, ran.videos, ran.system);
+    let figures = figures::figures(config, ran.chains, ran.system);
     Answer {
         outcome: Ok(figures),
         report,
     }
 }
 
-// Both passes at the layout that is found.
+// Both passes at the layout that is found. The chains have the first part of the floats, and the clock what is behind it.
 fn replay_at(
     bytes: &[u8],
     layout: TsPacketLayout,
@@ -62,18 +63,19 @@ fn replay_at(
     ensures { ReplayedAt config bytes.now layout times.old places.old result times.new places.new }
 {
     let count = bytes.len() / layout.packet_size;
-    let from = 8 * config.queue_depth * config.stream_count;
-    let n = arrival_clock::build(
-        bytes,
-        layout,
-        count,
-        config.pcr_pid,
-        config.clock_depth,
-        times,
-        from,
+    let (work, clock) = times.split_at_mut(8 * config.queue_depth * config.stream_count);
+    let mut intervals = IntervalsMut {
+        times: clock,
         places,
-    )?;
-    let ran = run::run(config, bytes, layout, count, times, places, n)?;
+        depth: config.clock_depth,
+    };
+    let n = arrival_clock::build(bytes, layout, count, config.pcr_pid, &mut intervals)?;
+    let clock = Intervals {
+        times: clock,
+        places,
+        count: n,
+    };
+    let ran = run::run(config, bytes, layout, count, work, clock)?;
     Ok(accepted(config, ran, n + 1))
 }
 

@@ -3,7 +3,7 @@ ghost use Rattle.std.specs.Prelude.{◌≡◌};
 ghost use Rattle.arrival.specs.Work.{start_of_arrival, next_arrival};
 ghost use Rattle.tstd.specs.Times.{start_times, next_times};
 
-use arrival::PacketArrival;
+use arrival::{Intervals, PacketArrival};
 use header::PacketHeader;
 
 // The packet's arrival, and that of the first and the last byte of the packets that parse.
@@ -16,11 +16,11 @@ pub struct Times {
 
 impl Times {
     // Before any packet.
-    pub(crate) fn start(times: &[f64], from: usize, places: &[u64], intervals: usize) -> Times
-        ensures { result ≡ start_times (start_of_arrival times.now from places.now intervals) }
+    pub(crate) fn start(clock: Intervals) -> Times
+        ensures { result ≡ start_times (start_of_arrival clock.entry.times.now clock.entry.places.now clock.entry.count) }
     {
         Times {
-            arrival: PacketArrival::start(times, from, places, intervals),
+            arrival: PacketArrival::start(clock),
             first_time: f64::INFINITY,
             last_time: f64::NEG_INFINITY,
         }
@@ -28,17 +28,10 @@ impl Times {
 
     // The times behind the next packet, whose header is given where it parses.
     #[tactic(auto, unfolding(crate::specs::Times::next_times))]
-    pub(crate) fn next(
-        self,
-        header: Option<PacketHeader>,
-        times: &[f64],
-        from: usize,
-        places: &[u64],
-        intervals: usize,
-    ) -> Times
-        ensures { result ≡ next_times header (next_arrival times.now from places.now intervals self.arrival) self }
+    pub(crate) fn next(self, header: Option<PacketHeader>, clock: Intervals) -> Times
+        ensures { result ≡ next_times header (next_arrival clock.entry.times.now clock.entry.places.now clock.entry.count self.arrival) self }
     {
-        let arrival = self.arrival.next(times, from, places, intervals);
+        let arrival = self.arrival.next(clock);
         if header.is_none() {
             return Times { arrival, ..self };
         }

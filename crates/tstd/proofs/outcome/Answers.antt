@@ -1,5 +1,5 @@
 -- `outcome` meets its contract. Assumes nothing.
-use Rattle.std.proofs.Common.{sym, ap, ◌∙◌, Err, arith, rules, length-take}
+use Rattle.std.proofs.Common.{sym, ap, ◌∙◌, Err, arith, length-take}
 use Rattle.std.specs.Result.{result_ok}
 use Rattle.std.proofs.lemmas.Result.{err_from_is_err_and}
 use lib.ListN.{length-map}

@@ -3,4 +3,4 @@ use Rattle.tstd.proofs.Rows.{Filled}
 use Rattle.tstd.proofs.figures.figures.Given as goal
 
 abbrev pub invariant-loop-i : goal.invariant-loop-i
-invariant-loop-i l = Filled l.tbs l.mains l.videos l.config.streams l.n l.i l.rows
+invariant-loop-i l = Filled l.chains l.config.streams l.n l.i l.rows

@@ -6,7 +6,7 @@ use Rattle.tstd.proofs.Looping.{LoopInv}
 use Rattle.tstd.proofs.run.run.Given as goal
 
 abbrev pub invariant-loop-k : goal.invariant-loop-k
-invariant-loop-k l = LoopInv (pass_of l.config l.bytes l.layout l.count l.initial.work l.places l.intervals) l.k l.at l.work l.tbs l.scanners l.mains l.videos l.system l.times l.slots
+invariant-loop-k l = LoopInv (pass_of l.config l.bytes l.layout l.count l.initial.work l.clock) l.k l.at l.work l.chains l.system l.times l.slots
 
 abbrev pub decreases-loop-k : goal.decreases-loop-k
 decreases-loop-k l = l.count - l.k
