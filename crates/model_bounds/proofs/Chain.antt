@@ -72,7 +72,7 @@ chain_new m w = record { bytes = 0; few = zero-le; tb = new_bounded m.model.rx_b
 
 -- ---- larger counts
 branch_more : (b : TStdBranch) (k k' : ℕ) (x : Branch) → k ≤ k' → BranchHolds b k x → BranchHolds b k' x
-branch_more (TStdBranch.Main size) k k' (main x) h m = main_more (188 * k') k' (mul-le-mul_left 188 h) h m
+branch_more (TStdBranch.Main size) k k' (main x) h m = main_more _ _ (188 * k') k' _ (mul-le-mul_left 188 h) h m
 branch_more (TStdBranch.Main size) k k' (video x) h m = m
 branch_more (TStdBranch.Video rbx mb eb) k k' (main x) h m = m
 branch_more (TStdBranch.Video rbx mb eb) k k' (video x) h m = video_more (188 * k') k' k' (mul-le-mul_left 188 h) h h m
@@ -96,7 +96,7 @@ module _ {i j l : ℕ} (k depth : ℕ) (d : Delivered) (t : Float) (in_order : U
   unfolding step_branch
   step_holds (TStdBranch.Main size) (main y) w h =
       let z = main_packet (float size) depth d t y (size_of size w.least w.most) x (le_trans more short) h in
-      record { branch = main_more (188 * suc k) (suc k) more (le_refl (suc k)) z.holds; events = z.events; few = z.few }
+      record { branch = main_more _ _ (188 * suc k) (suc k) _ more (le_refl (suc k)) z.holds; events = z.events; few = z.few }
   step_holds (TStdBranch.Main size) (video y) w h = absurd h
   step_holds (TStdBranch.Video rbx mb eb) (main y) w h = absurd h
   step_holds (TStdBranch.Video rbx mb eb) (video y) w h =

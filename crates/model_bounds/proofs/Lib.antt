@@ -1,5 +1,6 @@
 -- The laws of a chain's bounds: its parts, and then the chain. Callers cite Chain, Times and Loops.
 pub mod Open
+pub mod Steps
 pub mod MainStep
 pub mod VideoStep
 pub mod Times
