@@ -1,6 +1,6 @@
 -- The replay behind its checks: pass 1 makes what pass 2 asks, their answer is the definition's, and what of the work is not cleared is as it was.
 -- Assumes nothing.
-use Rattle.std.proofs.Common.{◌≡◌, ℕ, suc, ◌+◌, ◌-◌, ◌*◌, ◌/◌, ◌^◌, ◌<◌, ◌≤◌, Bool, true, false, cond, leb, List, ◌++◌, map, length, drop, sym, refl, ap, ◌∙◌, mul-le-mul, le-div_iff_mul-le, arith, length-drop, eq-eqb, ne_eqb, le-leb}
+use Rattle.std.proofs.Common.{◌≡◌, ℕ, suc, ◌+◌, ◌-◌, ◌*◌, ◌^◌, ◌<◌, ◌≤◌, Bool, true, false, cond, leb, List, ◌++◌, map, length, drop, sym, refl, ap, ◌∙◌, arith, length-drop, eq-eqb, ne_eqb}
 use lib.Ieee.{Float, lt}
 use Rattle.ieee.specs.Binary64.{◌⊖◌, 0f}
 use Rattle.error.specs.declared.Refusal.{Refusal}
@@ -16,6 +16,8 @@ use Rattle.arrival.specs.declared.IntervalsMut.{IntervalsMut}
 use Rattle.arrival.specs.ArrivalClock.{build}
 use Rattle.arrival.specs.Samples.{samples_of}
 use Rattle.arrival.specs.Work.{holds, intervals_in}
+use Rattle.arrival.proofs.Cursors.{room_holds}
+use Rattle.arrival.proofs.Frame.{Keeps}
 use Rattle.arrival.proofs.Within.{Counted}
 use Rattle.arrival_clock.specs.Clock.{parses_from, pass_over, Answers}
 use Rattle.arrival_clock.proofs.Clock.{build_keeps, build_refused, build_intervals, build_counted, build_room, build_bounded}
@@ -80,11 +82,6 @@ module _ (c : TStdConfig) (r : RanState) where
 
 -- ---- at the layout that is found
 
--- with what the parts of the work hold in the end
-pub replayed_as : {c : TStdConfig} {l : List ℕ} {y : TsPacketLayout} {times : List Float} {places : List ℕ} {a : Result Answer Refusal} (work t t' : List Float) (p p' : List ℕ) → t ≡ t' → p ≡ p'
-    → ReplayedAt c l y times places a (work ++ t') p' → ReplayedAt c l y times places a (work ++ t) p
-replayed_as work t t' p p' e f r = rw (e, f) r
-
 module _ (c : TStdConfig) (l : List ℕ) (y : TsPacketLayout) (times : List Float) (places : List ℕ) (fit : Fitting c l y times places) where
   abbrev read : Read
   read = read_of (streams_read c) l
@@ -101,12 +98,6 @@ module _ (c : TStdConfig) (l : List ℕ) (y : TsPacketLayout) (times : List Floa
 
   pub size_some : 188 ≤ y.packet_size
   size_some = (layouts.known_size known).0
-
-  pub from_few : from ≤ 524288
-  from_few =
-      let q : 8 * c.queue_depth ≤ 65536 = omega (arith, fit.within.queue_depth.most) in
-      let m : 8 * c.queue_depth * c.stream_count ≤ 65536 * 8 = mul-le-mul q fit.within.stream_count in
-      m
 
   facts_are : read.facts ≡ facts_from y (streams_read c) l 0 count
   facts_are = ap (λ (r : Read). r.facts) (read_found (streams_read c) l y fit.found ∙ read_parts y (streams_read c) l)
@@ -125,23 +116,15 @@ module _ (c : TStdConfig) (l : List ℕ) (y : TsPacketLayout) (times : List Floa
   parts = omega (arith, fit.times_fit)
 
   clock_room : holds c.clock_depth (drop from times) places ≡ true
-  unfolding holds needed_of
+  unfolding needed_of
   clock_room =
-      let d = c.clock_depth in
-      let t = fit.times_fit in
-      let p = fit.places_fit in
-      let a : 0 < 3 = omega arith in
-      let b : 0 < 2 = omega arith in
-      let l = length-drop from times in
-      let m : d * 3 ≤ length (drop from times) = omega arith in
-      let n : d * 2 ≤ length places = omega arith in
-      let g : leb d (length (drop from times) / 3) ≡ true = le-leb d (length (drop from times) / 3) ((le-div_iff_mul-le {x = d} {y = length (drop from times)} a).1 m) in
-      let h : leb d (length places / 2) ≡ true = le-leb d (length places / 2) ((le-div_iff_mul-le {x = d} {y = length places} b).1 n) in
-      rw (g, h) refl
+      room_holds c.clock_depth (drop from times) places
+      (record { of_times = rw (length-drop from times) (omega (arith, fit.times_fit)); of_places = omega (arith, fit.places_fit) })
 
-  -- ---- behind pass 1: before and after are the clock's floats and numbers, and work is what stands before the floats
-  module _ (before after : IntervalsMut) (work : List Float) (e-depth : before.depth ≡ c.clock_depth) (e-times : before.times.now ≡ drop from times) (e-places : before.places.now ≡ places)
-      {built : Result ℕ Refusal} (is : Answers (pass_over c.pcr_pid before.depth before.times.now before.places.now (parses_from y l 0 count)) built before after) where
+  -- ---- behind pass 1: t and p are what the clock's floats and numbers then hold
+  module _ {built : Result ℕ Refusal} {before after : IntervalsMut} (e-depth : before.depth ≡ c.clock_depth) (e-times : before.times.now ≡ drop from times) (e-places : before.places.now ≡ places)
+      {t : List Float} {p : List ℕ} (e-t : t ≡ after.times.now) (e-p : p ≡ after.places.now)
+      (is : Answers (pass_over c.pcr_pid before.depth before.times.now before.places.now (parses_from y l 0 count)) built before after) where
     shallow : before.depth ≤ 2 ^ 20
     shallow = omega (arith, fit.within.clock_depth.most)
 
@@ -158,23 +141,21 @@ module _ (c : TStdConfig) (l : List ℕ) (y : TsPacketLayout) (times : List Floa
         rw (← e-depth, samples_are) (build_refused y l count c.pcr_pid is shallow room short e) in
         rw b refl
 
-    -- what is not needed of the work is as it was
-    times_kept : (w : List Float) → length w ≡ from → zeroed 0f (needed_of c).times (w ++ after.times.now) ≡ zeroed 0f (needed_of c).times times
-    unfolding needed_of
-    times_kept w e =
-        let k = build_keeps y l count c.pcr_pid is in
-        let same : drop (3 * c.clock_depth) after.times.now ≡ drop (3 * c.clock_depth) (drop from times) = rw (← e-depth, ← e-times) k.behind in
-        zeroed_parts 0f w after.times.now times from (3 * c.clock_depth) e (k.times_length ∙ ap length e-times) parts same
+    kept : Keeps c.clock_depth (drop from times) places t p
+    kept = rw (e-t, e-p) (rw (e-depth, e-times, e-places) at (build_keeps y l count c.pcr_pid is))
 
-    pub places_kept : zeroed 0 (needed_of c).places after.places.now ≡ zeroed 0 (needed_of c).places places
+    -- what is not needed of the work is as it was; w are the chains' floats
+    times_kept : (w : List Float) → length w ≡ from → zeroed 0f (needed_of c).times (w ++ t) ≡ zeroed 0f (needed_of c).times times
     unfolding needed_of
-    places_kept =
-        let k = build_keeps y l count c.pcr_pid is in
-        zeroed_behind 0 _ after.places.now places (k.places_length ∙ ap length e-places) (rw (← e-depth, ← e-places) k.places_behind)
+    times_kept w size = zeroed_parts 0f w t times from (3 * c.clock_depth) size kept.times_length parts kept.behind
 
-    pub clock_refused : {a : Result Answer Refusal} {x : Refusal} (w : List Float) → length w ≡ from → built ≡ Err x → a ≡ Err x → ReplayedAt c l y times places a (w ++ after.times.now) after.places.now
+    places_kept : zeroed 0 (needed_of c).places p ≡ zeroed 0 (needed_of c).places places
+    unfolding needed_of
+    places_kept = zeroed_behind 0 _ p places kept.places_length kept.places_behind
+
+    pub clock_refused : {a : Result Answer Refusal} {x : Refusal} → built ≡ Err x → a ≡ Err x → (w : List Float) → length w ≡ from → ReplayedAt c l y times places a (w ++ t) p
     unfolding answered
-    clock_refused w m e r = record { outcome = rw (refused_at e) r; times_are = times_kept w m; places_are = places_kept }
+    clock_refused e r w size = record { outcome = rw (refused_at e) r; times_are = times_kept w size; places_are = places_kept }
 
     module _ (n : ℕ) (e : built ≡ Ok n) where
       counted : Counted before.depth (length (samples_of c.pcr_pid (parses_from y l 0 count))) n
@@ -187,8 +168,7 @@ module _ (c : TStdConfig) (l : List ℕ) (y : TsPacketLayout) (times : List Floa
       pub intervals_few : n ≤ 3000
       intervals_few = omega (arith, counted.one_fewer, counted.within_depth, fit.within.clock_depth.most)
 
-      -- t and p are the clock's floats and numbers as pass 2 reads them
-      module _ (t : List Float) (p : List ℕ) (e-t : t ≡ after.times.now) (e-p : p ≡ after.places.now) (long : length work ≡ from) where
+      module _ (work : List Float) (long : length work ≡ from) where
         abbrev pass : Pass
         pass = record { config = c; recording = l; layout = y; count = count; work = work; times = t; places = p; last = n - 1 }
 
@@ -214,15 +194,15 @@ module _ (c : TStdConfig) (l : List ℕ) (y : TsPacketLayout) (times : List Floa
         pub runs_at : with_layout c read (Some y) ≡ whole pass (n + 1)
         unfolding with_layout with_clock from_packet
         runs_at =
-            let b : build c.clock_depth (samples_read c read) ≡ Ok (intervals_in after.times.now after.places.now 0 n) =
-            rw (← e-depth, samples_are) (build_intervals y l count c.pcr_pid is shallow room short n e) in
+            let b : build c.clock_depth (samples_read c read) ≡ Ok (intervals_in t p 0 n) =
+            rw (← e-depth, samples_are, e-t, e-p) (build_intervals y l count c.pcr_pid is shallow room short n e) in
             let s : length (samples_read c read) ≡ n + 1 = ap length samples_are ∙ sym counted.one_fewer in
             let z : count - 0 ≡ count = omega arith in
-            rw (b, s, facts_are, same_count, e-t, e-p, z) refl
+            rw (b, s, facts_are, same_count, z) refl
 
         -- ---- behind pass 2
         module _ {result : Result RanState Refusal} {work' : List Float} (to : RanTo pass result work') where
-          pub queue_refused : {a : Result Answer Refusal} {x : Refusal} → result ≡ Err x → a ≡ Err x → ReplayedAt c l y times places a (work' ++ after.times.now) after.places.now
+          pub queue_refused : {a : Result Answer Refusal} {x : Refusal} → result ≡ Err x → a ≡ Err x → ReplayedAt c l y times places a (work' ++ t) p
           unfolding answered
           queue_refused {a} {x} f p = record { outcome = rw (runs_at, to.refused x f (n + 1)) p; times_are = times_kept work' (to.work_size ∙ long); places_are = places_kept }
 
@@ -239,7 +219,7 @@ module _ (c : TStdConfig) (l : List ℕ) (y : TsPacketLayout) (times : List Floa
               )
               refl
 
-          pub passes_accepted : {ran : RanState} {a : Answer} → result ≡ Ok ran → a ≡ accepted_of c ran (n + 1) → ReplayedAt c l y times places (Ok a) (work' ++ after.times.now) after.places.now
+          pub passes_accepted : {ran : RanState} {a : Answer} → result ≡ Ok ran → a ≡ accepted_of c ran (n + 1) → ReplayedAt c l y times places (Ok a) (work' ++ t) p
           passes_accepted {ran} f r =
               let x = to.finishes ran f in
               record { outcome = ap Ok r ∙ accepted_is ran x ∙ ap answered (sym (runs_at ∙ x.outcome (n + 1))); times_are = times_kept work' (to.work_size ∙ long); places_are = places_kept }
