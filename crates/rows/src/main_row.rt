@@ -9,7 +9,10 @@ use branch::main_branch::MainBranch;
 use branch::queue::Ring;
 use branch::units::Units;
 
+// Floats and counts are handed on apart, here and for the video branch: they are lent so, the transport buffer has floats alone, and
+// a struct of both would be two, one to read and one to write.
 // Ruled out: the branch of another chain; the two rings exchanged.
+#[tactic(auto, unfolding(crate::specs::Rows::read_main, crate::specs::Rows::main_in))]
 pub fn main_of(floats: &[f64; FLOATS], counts: &[u64; COUNTS], i: usize) -> MainBranch
     ensures { result ≡ read_main floats.now counts.now i }
 {
@@ -46,6 +49,7 @@ pub fn main_of(floats: &[f64; FLOATS], counts: &[u64; COUNTS], i: usize) -> Main
 }
 
 // Ruled out: removed and required exchanged; another chain's numbers written.
+#[tactic(auto, unfolding(crate::specs::Rows::stored_main_floats, crate::specs::Rows::stored_main_counts))]
 pub fn set_main(floats: &mut [f64; FLOATS], counts: &mut [u64; COUNTS], i: usize, m: MainBranch)
     ensures { (floats.new ≡ stored_main_floats floats.old i m) × (counts.new ≡ stored_main_counts counts.old i m) }
 {

@@ -6,6 +6,7 @@ use crate::{BYTES, CHAINS, places};
 use scanner::{PesHeader, PesScanner, StampBytes};
 
 // Ruled out: the scanner of another chain; PTS and DTS exchanged.
+#[tactic(auto, unfolding(crate::specs::Rows::read_scanner, crate::specs::Rows::scanner_in))]
 pub fn scanner_of(bytes: &[u8; BYTES], i: usize) -> PesScanner
     ensures { result ≡ read_scanner bytes.now i }
 {
@@ -39,6 +40,7 @@ pub fn scanner_of(bytes: &[u8; BYTES], i: usize) -> PesScanner
 }
 
 // Ruled out: the high byte of the count lost; another chain's bytes written.
+#[tactic(auto, unfolding(crate::specs::Rows::stored_scanner, branch::specs::Stores::store_from))]
 pub fn set_scanner(bytes: &mut [u8; BYTES], i: usize, s: PesScanner)
     ensures { bytes.new ≡ stored_scanner bytes.old i s }
 {

@@ -6,6 +6,7 @@ use crate::{CHAINS, FLOATS, places};
 use fifo::FluidFifo;
 
 // Ruled out: the transport buffer of another chain; peak and longest busy time exchanged.
+#[tactic(auto, unfolding(crate::specs::Rows::read_tb, crate::specs::Rows::tb_in))]
 pub fn tb_of(floats: &[f64; FLOATS], i: usize) -> FluidFifo
     ensures { result ≡ read_tb floats.now i }
 {
@@ -23,6 +24,7 @@ pub fn tb_of(floats: &[f64; FLOATS], i: usize) -> FluidFifo
 }
 
 // Ruled out: a store one place off; another chain's floats written.
+#[tactic(auto, unfolding(crate::specs::Rows::stored_tb))]
 pub fn set_tb(floats: &mut [f64; FLOATS], i: usize, t: FluidFifo)
     ensures { floats.new ≡ stored_tb floats.old i t }
 {

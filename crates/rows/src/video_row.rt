@@ -42,6 +42,7 @@ fn leak_at(floats: &[f64; FLOATS], counts: &[u64; COUNTS], b: usize, c: usize) -
 }
 
 // Ruled out: the branch of another chain; the rings of runs and of marks exchanged.
+#[tactic(auto, unfolding(crate::specs::Rows::read_video, crate::specs::Rows::video_in))]
 pub fn video_of(floats: &[f64; FLOATS], counts: &[u64; COUNTS], i: usize) -> VideoBranch
     ensures { result ≡ read_video floats.now counts.now i }
 {
@@ -70,6 +71,7 @@ pub fn video_of(floats: &[f64; FLOATS], counts: &[u64; COUNTS], i: usize) -> Vid
     }
 }
 
+#[tactic(auto, unfolding(branch::specs::Stores::store_from))]
 fn set_leak(floats: &mut [f64; FLOATS], counts: &mut [u64; COUNTS], b: usize, c: usize, leak: Leak)
     requires { (b + 32 ≤ 256) × (c + 16 ≤ 128) }
     ensures { (floats.new ≡ store_from floats.old b 13 (leak_floats leak)) × (counts.new ≡ store_from counts.old c 5 (leak_counts leak)) }
@@ -90,6 +92,7 @@ fn set_leak(floats: &mut [f64; FLOATS], counts: &mut [u64; COUNTS], b: usize, c:
 }
 
 // Ruled out: bytes that came into EBn stored for those removed; another chain's numbers written.
+#[tactic(auto, unfolding(crate::specs::Rows::stored_video_floats, crate::specs::Rows::stored_video_counts, branch::specs::Stores::store_from))]
 pub fn set_video(floats: &mut [f64; FLOATS], counts: &mut [u64; COUNTS], i: usize, v: VideoBranch)
     ensures { (floats.new ≡ stored_video_floats floats.old i v) × (counts.new ≡ stored_video_counts counts.old i v) }
 {

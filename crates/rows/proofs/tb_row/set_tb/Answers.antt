@@ -2,12 +2,8 @@
 use Rattle.rows.specs.Rows.{stored_tb}
 use Rattle.branch.specs.Stores.{store_from}
 use mathlib.Core.Path.{refl}
-use borrow.Author.Tests.{lt-ltb, le-ltb}
+use borrow.Author.Tests.{lt-ltb}
 use Rattle.rows.proofs.tb_row.set_tb.Goals as goal
-
-pub returns-then-i-ge-CHAINS : goal.returns-then-i-ge-CHAINS
-unfolding stored_tb
-returns-then-i-ge-CHAINS c = rw (le-ltb _ 8 c.if-i-ge-CHAINS.true) refl
 
 pub returns : goal.returns
 unfolding stored_tb store_from
