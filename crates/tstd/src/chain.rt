@@ -12,7 +12,7 @@ use fifo::FluidFifo;
 use header::PacketHeader;
 use profile::config::{TStdConfig, TStdStream};
 use profile::model::TStdBranch;
-use scanner::{Fed, PesScanner};
+use scanner::{PesScanner, Runs};
 
 // The branch by its kind, with what does not change of it.
 #[derive(Clone, Copy)]
@@ -88,21 +88,21 @@ fn scans(s: PesScanner, header: PacketHeader) -> bool
     (header.payload_start < 188) & (header.payload_unit_start | s.in_header())
 }
 
-// The runs of a packet's payload, and the scanner behind it.
+// The runs of a packet's payload. The scanner is read whole and written only where it is fed: its header is 13 single bytes.
 #[tactic(auto, unfolding(crate::specs::Chain::scanned))]
-fn scanned(s: PesScanner, window: &[u8], header: PacketHeader) -> Fed
-    ensures { result ≡ scanned s window.now header }
+fn scan(s: &mut PesScanner, window: &[u8], header: PacketHeader) -> Runs
+    ensures runs { result ≡ (scanned s.old window.now header).runs }
+    ensures scanner { s.new ≡ (scanned s.old window.now header).scanner }
 {
-    if scans(s, header) {
-        return s.feed(
+    if scans(*s, header) {
+        let fed = s.feed(
             packet::payload(window, header.payload_start),
             header.payload_unit_start,
         );
+        *s = fed.scanner;
+        return fed.runs;
     }
-    Fed {
-        scanner: s,
-        runs: s.unfed(window.len().saturating_sub(header.payload_start)),
-    }
+    s.unfed(window.len().saturating_sub(header.payload_start))
 }
 
 #[derive(Clone, Copy)]
@@ -137,11 +137,10 @@ impl Chain {
     ) -> Result<(), QueueFull>
         ensures { PacketOf work.old self.old window.now header a k slots.old result self.new work.new slots.new }
     {
-        let fed = scanned(self.scanner, window, header);
-        self.scanner = fed.scanner;
+        let runs = scan(&mut self.scanner, window, header);
         let arrived = transport::arrive(
             self.tb,
-            fed.runs,
+            runs,
             header.payload_start,
             a.t0,
             a.t1,
