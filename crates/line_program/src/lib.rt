@@ -45,6 +45,7 @@ fn config() -> TStdConfig
         .with_clock_depth(CLOCK_DEPTH)
 }
 
+#[tactic(auto, unfolding(tstd::specs::Core::answer_for), using(crate::proofs::Line::line_long, crate::proofs::Line::line_replays))]
 fn answer(recording: &[u8]) -> Answer
     ensures { result ≡ answer_for empty_report (line_outcome recording.now) }
 {
@@ -59,6 +60,7 @@ fn answer(recording: &[u8]) -> Answer
 
 // The whole output from the start of out on, cut where out ends, and how many bytes of it out then holds: all, if out has 8,618.
 // Ruled out: a recording of 32,769 bytes replayed; the streams of another profile.
+#[tactic(auto, unfolding(crate::specs::Output::output_of), using(crate::proofs::Line::text_counts))]
 pub fn text_of(recording: &[u8], out: &mut [u8]) -> usize
     ensures output { Output recording.now out.old result out.new }
     ensures upper_bound { (result ≤ length out.new) × (result ≡ length (take result out.new)) }
