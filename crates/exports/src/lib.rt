@@ -24,7 +24,6 @@ fn profile_for(profile: &[u64], report_len: usize) -> Result<TStdConfig, Refusal
     Ok(config)
 }
 
-#[tactic(auto, using(crate::proofs::Steps::profile_read, crate::proofs::Steps::answers))]
 fn answer(
     bytes: &[u8],
     profile: &[u64],
