@@ -45,7 +45,7 @@ fn config() -> TStdConfig
         .with_clock_depth(CLOCK_DEPTH)
 }
 
-#[tactic(auto, unfolding(tstd::specs::Core::answer_for), using(crate::proofs::Line::line_long, crate::proofs::Line::line_replays))]
+#[tactic(auto, unfolding(tstd::specs::Core::answer_for), using(crate::proofs::Line::line_long))]
 fn answer(recording: &[u8]) -> Answer
     ensures { result ≡ answer_for empty_report (line_outcome recording.now) }
 {
