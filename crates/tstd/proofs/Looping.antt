@@ -1,5 +1,5 @@
 -- The loop over the packets of pass 2: its invariant, how it begins, the turn of each way through its body, and how it ends.
-use Rattle.std.proofs.Common.{◌≡◌, ℕ, suc, ◌+◌, ◌*◌, ◌^◌, ◌<◌, ◌≤◌, Bool, true, false, cond, ltb, leb, ◌⊎◌, List, [], length, get_or, take, drop, set, sym, refl, ap, ◌∙◌, subst, inl, inr, mul-le-mul, arith, ltb-false, ltb-true}
+use Rattle.std.proofs.Common.{◌≡◌, ℕ, suc, ◌+◌, ◌*◌, ◌<◌, ◌≤◌, true, false, cond, leb, ◌⊎◌, List, [], length, get_or, take, drop, set, sym, refl, ap, ◌∙◌, subst, inl, inr, arith}
 use lib.ListN.{length-map, get_or-map}
 use lib.Ieee.{Float}
 use Rattle.error.specs.declared.Refusal.{Refusal}
@@ -62,15 +62,6 @@ pub loop_as : {g : Pass} {k k' at at' : ℕ} {w : List Float} {cs : List Chain} 
     → times' ≡ times → at' ≡ at → k' ≡ k → LoopInv g (k + 1) (at + g.layout.packet_size) w cs system times sl
     → LoopInv g (k' + 1) (at' + g.layout.packet_size) w cs system times' sl
 loop_as e f h x = rw (e, f, h) x
-
--- places of the recording are few
-pub at_small : (g : Pass) (ready : Ready g) (k at : ℕ) → at ≡ g.layout.sync_offset + k * g.layout.packet_size → k < g.count → at ≤ 2 ^ 33
-at_small g ready k at e h =
-    let a = count_few g ready in
-    let w = ready.window in
-    let s = ready.size_few in
-    let m = mul-le-mul {n₁ = k} {m₁ = g.layout.packet_size} {n₂ = 2 ^ 24} {m₂ = 204} (omega arith) s in
-    omega arith
 
 -- ---- its begin
 
@@ -173,23 +164,6 @@ module _ (g : Pass) (ready : Ready g) (k at : ℕ) (w : List Float) (cs : List C
     (inv : Looping g ready k at w cs system times sl) (h : k < g.count) where
   abbrev s : State
   s = inv.state
-
-  -- where a turn leaves the loop's place and count
-  pub record Moved (at' k' : ℕ) : Type 0 where
-    pub at_few : at' ≤ 2 ^ 33
-    pub forward : k ≤ k'
-    pub inside : k' < g.count
-
-  pub moved_none : (at' k' : ℕ) → at' ≡ at → k' ≡ k → Moved at' k'
-  moved_none at' k' e f = record { at_few = rw e (at_small g ready k at inv.placed h); forward = omega arith; inside = omega arith }
-
-  pub moved_skip : {l : List ℕ} {size : ℕ} {owners : List ℕ} {c t : Times} {a b : ℕ} → Skips l size g.count owners c at k t a b → (at' k' : ℕ) → at' ≡ a → k' ≡ b → Moved at' k'
-  moved_skip {l} {size} {owners} {c} {t} {a} {b} s at' k' e f =
-      record { at_few = rw e s.at_few; forward = rw f s.forward; inside = rw f (by_test (ltb k b) refl) }
-    where
-      by_test : (x : Bool) → ltb k b ≡ x → b < g.count
-      by_test true z = s.in_packets (ltb-true k b z)
-      by_test false z = omega (arith, ltb-false k b z)
 
   module _ (window : List ℕ) (header : Option PacketHeader) (times' : Times) (is-window : window ≡ cond (leb (at + 188) (length g.recording)) (take 188 (drop at g.recording)) [])
       (is-header : header ≡ header_of (parse_of window)) (pids : Pids) (is-pids : pids ≡ pids_of g.config) (owner : Owner) (is-owner : owner ≡ header_owner pids header) (n : ℕ) (is-n : n ≡ suc g.last)

@@ -35,6 +35,7 @@ fn stream_row(pid: u16, chain: Chain) -> TStdChainStats
     }
 }
 
+#[tactic(auto, unfolding(crate::specs::Figures::system_row), using(summary::proofs::OfKind::first_system_pid))]
 fn system_row(config: TStdConfig, system: SystemChain) -> TStdChainStats
     requires { 0 < config.system_count }
     ensures { result ≡ system_row config system }

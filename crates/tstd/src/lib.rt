@@ -52,6 +52,7 @@ fn accepted(config: TStdConfig, ran: Ran, samples: usize) -> Answer
 }
 
 // Both passes at the layout that is found. The chains have the first part of the floats, and the clock what is behind it.
+#[tactic(auto, using(crate::proofs::Core::size_some, crate::proofs::Core::parts))]
 fn replay_at(
     bytes: &[u8],
     layout: TsPacketLayout,
@@ -80,6 +81,7 @@ fn replay_at(
 }
 
 // The checks, both passes, and the work cleared. The lent report does not enter.
+#[tactic(auto, using(crate::proofs::Core::times_fit, crate::proofs::Core::places_fit, crate::proofs::Core::fitting))]
 fn outcome(
     bytes: &[u8],
     config: TStdConfig,

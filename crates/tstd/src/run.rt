@@ -53,6 +53,7 @@ fn ends(config: TStdConfig, count: usize, work: &mut [f64], ran: Ran) -> Result<
 }
 
 // The loop is a while, since a skip moves k on.
+#[tactic(auto, using(crate::proofs::Owning::pid_small))]
 pub(crate) fn run(
     config: TStdConfig,
     bytes: &[u8],

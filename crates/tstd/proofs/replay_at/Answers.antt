@@ -1,14 +1,8 @@
 -- `replay_at` meets its contract. Assumes nothing.
 use Rattle.std.proofs.Common.{rules, refl, ap, ◌∙◌, Err, arith}
 use Rattle.std.proofs.lemmas.Result.{err_from_is_err_and}
-use Rattle.tstd.proofs.Core.{size_some, parts, clock_refused, some_intervals, intervals_few, ready, queue_refused, passes_accepted}
+use Rattle.tstd.proofs.Core.{clock_refused, some_intervals, intervals_few, ready, queue_refused, passes_accepted}
 use Rattle.tstd.proofs.replay_at.Goals as goal
-
-pub nonzero_div-count : goal.nonzero_div-count
-nonzero_div-count c = omega (arith, size_some _ _ _ _ _ c.requires)
-
-pub split_at_mut-work-requires : goal.split_at_mut-work-requires
-split_at_mut-work-requires c = parts _ _ _ _ _ c.requires
 
 pub returns-in_err-n : goal.returns-in_err-n
 returns-in_err-n c =

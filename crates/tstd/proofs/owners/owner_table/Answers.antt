@@ -1,13 +1,7 @@
 -- `owner_table` meets its contract: behind the assignments of streams and system PIDs each entry is the owner's. Assumes nothing.
-use Rattle.tstd.proofs.Owning.{stream_indices_lem, system_indices, in_use, in_use_few, owners_of}
+use Rattle.tstd.proofs.Owning.{in_use, in_use_few, owners_of}
 use Rattle.std.proofs.Common.{rules}
 use Rattle.tstd.proofs.owners.owner_table.Goals as goal
-
-pub assign-requires : goal.assign-requires
-assign-requires c = stream_indices_lem _ (in_use_few _ _ _ _ c.min-streams.ensures (search rules))
-
-pub assign-requires-2 : goal.assign-requires-2
-assign-requires-2 c = system_indices _ (in_use_few _ _ _ _ c.min-system.ensures (search rules))
 
 pub returns : goal.returns
 returns c =

@@ -5,9 +5,6 @@ use Rattle.tstd.proofs.Rows.{get_d_any}
 use Rattle.tstd.proofs.Ending.{end_through, end_refuses, ends_through}
 use Rattle.tstd.proofs.run.ends.Goals as goal
 
-pub loop-i-init : goal.loop-i-init
-loop-i-init c l y work clock ready now = now
-
 pub loop-i-preserved : goal.loop-i-preserved
 loop-i-preserved c l y work clock ready now =
     let m = c.loop-i.invariant l y work clock ready now in

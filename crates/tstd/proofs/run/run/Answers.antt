@@ -3,7 +3,6 @@
 use Rattle.std.proofs.Common.{◌≡◌, ℕ, suc, ◌-◌, ◌<◌, sym, refl, ◌∙◌, inl, inr, arith}
 use Rattle.tstd.specs.Chain.{unused_chain}
 use Rattle.tstd.proofs.Rows.{get_d_any}
-use Rattle.tstd.proofs.Owning.{pid_small}
 use Rattle.tstd.proofs.Looping.{loop_starts, system_again, stream_again, stream_refuses, skip_again, loop_ends, loop_as}
 use Rattle.tstd.proofs.run.run.Goals as goal
 use Rattle.tstd.proofs.run.run.Goals.{in-Stream-Some+else-is_err, in-System-default, in_default, in_default-via-in-Stream+in_default, in_default-via-in_default}
@@ -15,9 +14,6 @@ pub loop-k-init : goal.loop-k-init
 loop-k-init c =
     let pre = c.requires in
     record { ready = pre.1; loop = loop_starts _ pre.1 _ _ _ _ c.chains-chains.ensures c.new_system-system.ensures _ (one_more _ pre.0) c.start-times.ensures c.new-slots.ensures }
-
-pub owner_of-requires : goal.owner_of-requires
-owner_of-requires c = pid_small _ _ c.read-header.ensures
 
 pub loop-k-preserved : goal.loop-k-preserved
 loop-k-preserved c =
