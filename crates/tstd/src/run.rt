@@ -76,17 +76,16 @@ pub(crate) fn run(
         let window = packet::window_at(bytes, at);
         let header = header::read(window);
         times = times.next(header, clock);
-        let a = times.arrival;
         match (owners::owner_of(&owners, header), header) {
             (Owner::Stream(i), Some(header)) => {
                 if chains[i]
-                    .packet(work, window, header, a, &mut slots, 1 + 6 * i)
+                    .packet(work, window, header, times.arrival, &mut slots, 1 + 6 * i)
                     .is_err()
                 {
                     return Err(queue_full(config, k, i));
                 }
             }
-            (Owner::System, _) => system = front::push_system(system, a, &mut slots),
+            (Owner::System, _) => system = front::push_system(system, times.arrival, &mut slots),
             _ => {
                 let s = skip::skip(times, &owners, bytes, layout.packet_size, at, count, k);
                 times = s.times;
