@@ -81,7 +81,7 @@ fn replay_at(
 }
 
 // The checks, both passes, and the work cleared. The lent report does not enter.
-#[tactic(auto, using(crate::proofs::Core::times_fit, crate::proofs::Core::places_fit, crate::proofs::Core::fitting))]
+#[tactic(auto, using(crate::proofs::Core::times_fit, crate::proofs::Core::places_fit))]
 fn outcome(
     bytes: &[u8],
     config: TStdConfig,

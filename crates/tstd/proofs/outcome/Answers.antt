@@ -2,9 +2,14 @@
 use Rattle.std.proofs.Common.{sym, ap, ◌∙◌, Err, arith, length-take}
 use Rattle.std.specs.Result.{result_ok}
 use Rattle.std.proofs.lemmas.Result.{err_from_is_err_and}
-use Rattle.tstd.proofs.Core.{checked_as, times_fit, places_fit, check_refused, refused_by, layout_refused, replayed_found}
+use lib.ListN.{length-map}
+use Rattle.tstd.proofs.Core.{checked_as, fitting, times_fit, places_fit, check_refused, refused_by, layout_refused, replayed_found}
 use Rattle.tstd.proofs.Cleared.{zeroed_filled}
 use Rattle.tstd.proofs.outcome.Goals as goal
+
+pub replay_at-answer-requires : goal.replay_at-answer-requires
+replay_at-answer-requires c =
+    fitting _ _ _ _ _ (checked_as _ _ _ _ _ _ c.replay.ensures c.check.ensures c.in_ok-needed.was) _ (sym c.detect_packet_layout.ensures ∙ (c.ok_or.ensures.ok_part ∙ ap result_ok c.in_ok-layout.was)) (grind (arith, length-map))
 
 pub slice_bounds-fill-end-2 : goal.slice_bounds-fill-end-2
 slice_bounds-fill-end-2 c =
