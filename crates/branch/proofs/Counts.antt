@@ -6,12 +6,13 @@ use mathlib.Core.List.{List, [], ◌∷◌}
 use native.Mathlib.Omega.{arith}
 use lib.ListN.{length}
 use lib.Ieee.{Float, lt}
+use Rattle.std.specs.Prelude.{Option}
 use Rattle.ieee.specs.Binary64.{0f, +∞}
 use Rattle.branch.specs.declared.Run.{Run}
 use Rattle.branch.specs.declared.AccessUnit.{AccessUnit}
 use Rattle.branch.specs.declared.Delivered.{Delivered}
 use Rattle.branch.specs.CumulativeIn.{run_refused}
-use Rattle.branch.specs.MainBranch.{OpenAu, Main, remove_unit, drain_from, drain, at_peak, look_at_end, finish, Fed, and_then, waiting, close_au, open_unit, add_bytes, add_run, stamp_of, deliver, packet_step, end_step, main_step}
+use Rattle.branch.specs.MainBranch.{Main, remove_unit, drain_from, drain, at_peak, look_at_end, finish, Fed, and_then, waiting, close_au, open_unit, add_bytes, add_run, stamp_of, deliver, packet_step, end_step, main_step}
 use Rattle.branch.proofs.UnitCounts as unit-counts
 
 abbrev pub units_in : Main → ℕ
@@ -67,7 +68,7 @@ then_by n f g false e h k = simp e (k f.branch h)
 then_counts : (n : ℕ) (f : Fed) (g : Main → Fed) → AtMost n f → ((m : Main) → units_in m ≤ n → AtMost n (g m)) → AtMost n (and_then f g)
 then_counts n f g h k = then_by n f g f.full refl h k
 
-open_counts : (depth : ℕ) (o : OpenAu) (m : Main) → AtMost (units_in m + 1) (open_unit depth o m)
+open_counts : (depth : ℕ) (o : Option AccessUnit) (m : Main) → AtMost (units_in m + 1) (open_unit depth o m)
 unfolding AtMost open_unit
 open_counts depth o m = unit-counts.open_counts depth o (waiting m)
 

@@ -12,11 +12,12 @@ use Rattle.events.specs.Event.{overflow, kind_of, figure_of, decode_of}
 use Rattle.events.specs.declared.Slots.{Slots}
 use Rattle.events.specs.Slots.{noted_if}
 use Rattle.events.proofs.Noted.{noted_all_when_lem}
+use Rattle.branch.specs.declared.AccessUnit.{AccessUnit}
 use Rattle.branch.specs.declared.Run.{Run}
 use Rattle.branch.specs.declared.QueueFull.{QueueFull}
 use Rattle.branch.specs.declared.queue.Place.{Place}
 use Rattle.branch.specs.declared.inflow.CumulativeIn.{CumulativeIn}
-use Rattle.std.specs.Prelude.{⊤, Result, Ok, Err, is_err, IsErr}
+use Rattle.std.specs.Prelude.{⊤, Result, Ok, Err, is_err, IsErr, Option}
 use Rattle.branch.specs.declared.units.Units.{Units}
 use Rattle.branch.specs.declared.main_branch.MainModel.{MainModel}
 use Rattle.branch.specs.declared.main_branch.MainBranch.{MainBranch}
@@ -25,10 +26,10 @@ use Rattle.branch.specs.CumulativeIn.{final_total, run_refused}
 use Rattle.branch.specs.InflowInWork.{run_of, inflow_of, RunPushedTo}
 use Rattle.branch.specs.Units.{Queued, close_units, open_units}
 use Rattle.branch.specs.UnitsInWork.{waiting_of, UnitsTo, grown_units}
-use Rattle.branch.specs.MainBranch.{OpenAu, Main, Fed, refused, fed, and_then, waiting, queued_to, close_au, open_unit, add_bytes, add_run, final_fullness, at_peak, look_at_end}
+use Rattle.branch.specs.MainBranch.{Main, Fed, refused, fed, and_then, waiting, queued_to, close_au, open_unit, add_bytes, add_run, final_fullness, at_peak, look_at_end}
 use Rattle.branch.specs.MainInWork.{runs_place, units_place, main_of, BranchLies, DrainedTo, FedTo}
 use Rattle.branch.proofs.Rings.{kept, floats_local, lies_kept, outside_refl, outside_then, outside_wider}
-use Rattle.branch.proofs.UnitQueues.{units_kept, open_grown}
+use Rattle.branch.proofs.UnitQueues.{units_kept}
 
 -- ---- the look at the end
 
@@ -79,7 +80,7 @@ module _ (w v : List Float) (p : MainModel) (b : MainBranch) (pl : Place) (at : 
       let here : UnitsTo w (units_place p) b.units (close_units p.depth (waiting_of w (units_place p) b.units)) r u v = rw at at m in
       rw (← waiting_is) (queued _ here)
 
-  pub units_opened : (o : OpenAu) → UnitsTo w pl b.units (open_units pl.depth o (waiting_of w pl b.units)) r u v → FedTo w p b (open_unit p.depth o (main_of w p b)) r with_units' v
+  pub units_opened : (o : Option AccessUnit) → UnitsTo w pl b.units (open_units pl.depth o (waiting_of w pl b.units)) r u v → FedTo w p b (open_unit p.depth o (main_of w p b)) r with_units' v
   unfolding open_unit
   units_opened o m =
       let here : UnitsTo w (units_place p) b.units (open_units p.depth o (waiting_of w (units_place p) b.units)) r u v = rw at at m in
@@ -140,6 +141,6 @@ module _ (w v : List Float) (p : MainModel) (b : MainBranch) (run : Run) (some :
         lies = record { runs = here.lies; pending = lies_kept here.outside l.pending };
         outside = outside_wider (omega arith) (omega arith) here.outside;
         full = refl;
-        state = rw (here.taken t, pending, open_grown b.units.open_au run.bytes);
+        state = rw (here.taken t, pending);
         units = refl;
       })

@@ -26,7 +26,6 @@ use Rattle.branch.specs.UnitsInWork.{unit_at, waiting_of, UnitsTo}
 use Rattle.branch.specs.MainInWork.{new_branch, no_entries, runs_place, units_place, main_of, BranchLies, ready, DrainedTo, FedTo, SteppedTo, Unchanged, StepOf, FinishOf, CloseOf}
 use Rattle.branch.proofs.UnitCounts.{close_twice}
 use Rattle.branch.proofs.Rings.{both, ring_fits, lying_fits, no_entries_lem}
-use Rattle.branch.proofs.UnitQueues.{open_none}
 use Rattle.branch.proofs.Feeding.{units_closed}
 
 -- ---- the test
@@ -199,7 +198,7 @@ module _ (size : Float) (depth : ℕ) (d : Delivered) (t : Float) (b : Main) whe
 
 pub new_is : (w : List Float) (p : MainModel) → main_of w p new_branch ≡ new_main
 unfolding main_of new_branch new_main
-new_is w p = rw (no_entries_lem 3 (λ u o. run_of (floats_at 3 u o)) w (runs_place p) no_entries refl, no_entries_lem 3 unit_at w (units_place p) no_entries refl, open_none)
+new_is w p = rw (no_entries_lem 3 (λ u o. run_of (floats_at 3 u o)) w (runs_place p) no_entries refl, no_entries_lem 3 unit_at w (units_place p) no_entries refl)
 
 pub new_lies : (w : List Float) (p : MainModel) → 0 < p.depth → p.base + 6 * p.depth ≤ length w → BranchLies w p new_branch
 unfolding new_branch

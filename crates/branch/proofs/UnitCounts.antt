@@ -5,17 +5,18 @@ use mathlib.Core.Bool.{Bool, true, false, true≢false}
 use native.Mathlib.Omega.{arith}
 use lib.ListN.{length, length-append}
 use lib.Dec.{eqb}
+use Rattle.std.specs.Prelude.{Option, Some, None}
 use Rattle.branch.specs.declared.AccessUnit.{AccessUnit}
-use Rattle.branch.specs.Units.{OpenAu, none, unit, Waiting, Queued, close_by, close_units, opened, open_units}
+use Rattle.branch.specs.Units.{Waiting, Queued, close_by, close_units, opened, open_units}
 
 abbrev pub units_in : Waiting → ℕ
 units_in x = x.units + length x.pending
 
-close_by_lem : (depth : ℕ) (x : Waiting) (o : OpenAu) (b : Bool) → eqb (length x.pending) depth ≡ b → units_in (close_by depth x o).units ≤ units_in x + 1
+close_by_lem : (depth : ℕ) (x : Waiting) (o : Option AccessUnit) (b : Bool) → eqb (length x.pending) depth ≡ b → units_in (close_by depth x o).units ≤ units_in x + 1
 unfolding close_by
-close_by_lem depth x none b e = omega arith
-close_by_lem depth x (unit u) true e = simp e (omega arith)
-close_by_lem depth x (unit u) false e = simp (e, length-append) (omega arith)
+close_by_lem depth x None b e = omega arith
+close_by_lem depth x (Some u) true e = simp e (omega arith)
+close_by_lem depth x (Some u) false e = simp (e, length-append) (omega arith)
 
 pub close_counts : (depth : ℕ) (x : Waiting) → units_in (close_units depth x).units ≤ units_in x + 1
 unfolding close_units
@@ -25,17 +26,17 @@ opened_lem : (u : AccessUnit) (q : Queued) (b : Bool) → q.full ≡ b → units
 opened_lem u q true e = simp e
 opened_lem u q false e = simp e
 
-pub open_counts : (depth : ℕ) (o : OpenAu) (x : Waiting) → units_in (open_units depth o x).units ≤ units_in x + 1
+pub open_counts : (depth : ℕ) (o : Option AccessUnit) (x : Waiting) → units_in (open_units depth o x).units ≤ units_in x + 1
 unfolding open_units
-open_counts depth none x = omega arith
-open_counts depth (unit u) x = rw (opened_lem u (close_units depth x) _ refl) (close_counts depth x)
+open_counts depth None x = omega arith
+open_counts depth (Some u) x = rw (opened_lem u (close_units depth x) _ refl) (close_counts depth x)
 
 -- behind a close nothing is open
-twice_by : (depth : ℕ) (x : Waiting) (o : OpenAu) (b : Bool) → x.open_au ≡ o → eqb (length x.pending) depth ≡ b → (close_by depth x o).full ≡ false → close_units depth (close_by depth x o).units ≡ close_by depth x o
+twice_by : (depth : ℕ) (x : Waiting) (o : Option AccessUnit) (b : Bool) → x.open_au ≡ o → eqb (length x.pending) depth ≡ b → (close_by depth x o).full ≡ false → close_units depth (close_by depth x o).units ≡ close_by depth x o
 unfolding close_units close_by
-twice_by depth x none b o e f = simp o
-twice_by depth x (unit u) true o e f = absurd (true≢false (sym (simp e) ∙ f))
-twice_by depth x (unit u) false o e f = simp e
+twice_by depth x None b o e f = simp o
+twice_by depth x (Some u) true o e f = absurd (true≢false (sym (simp e) ∙ f))
+twice_by depth x (Some u) false o e f = simp e
 
 pub close_twice : (depth : ℕ) (x : Waiting) → (close_units depth x).full ≡ false → close_units depth (close_units depth x).units ≡ close_units depth x
 unfolding close_units

@@ -1,12 +1,12 @@
 -- What becomes of the units of a branch, in terms of the list in their ring.
 use Prim.Native.Nat.{ℕ, ◌+◌, ◌*◌, ◌≤◌, ◌<◌}
 use mathlib.Core.Path.{◌≡◌, refl, sym, ap, ◌∙◌}
-use mathlib.Core.Bool.{Bool, true, false, cond}
+use mathlib.Core.Bool.{true, false, cond}
 use mathlib.Core.List.{List, [], ◌∷◌, ◌++◌}
 use mathlib.Core.Logic.{◌⊎◌}
 use lib.Dec.{eqb}
-use lib.Ieee.{Float, lt, le, ne, eq}
-use Rattle.ieee.specs.Binary64.{◌⊕◌, ◌⊖◌, -∞, 0f, 1f, 1e-6f}
+use lib.Ieee.{Float, lt, le}
+use Rattle.ieee.specs.Binary64.{◌⊕◌, ◌⊖◌, 1f, 1e-6f}
 use Rattle.events.specs.Event.{underflow, delay, kind_of, figure_of, decode_of}
 use Rattle.events.specs.declared.Slots.{Slots}
 use Rattle.events.specs.Slots.{noted_if, noted_all}
@@ -20,8 +20,8 @@ use Rattle.branch.specs.declared.queue.Place.{Place}
 use Rattle.branch.specs.declared.queue.Ring.{Ring}
 use Rattle.branch.specs.declared.units.Units.{Units}
 use Rattle.branch.specs.Queue.{Lies, SameOutside, place_of, floats_at, entries, PushedTo}
-use Rattle.branch.specs.Units.{none, unit, open_of, stamp_of, grown, Waiting, Queued, with_open, close_by, close_units, open_units, due_now, unit_events}
-use Rattle.branch.specs.UnitsInWork.{unit_of, floats_of_unit, unit_at, waiting_of, no_unit, UnitsTo, FirstOf, DueOf}
+use Rattle.branch.specs.Units.{stamp_of, grown, Waiting, Queued, with_open, close_by, close_units, open_units, due_now, unit_events}
+use Rattle.branch.specs.UnitsInWork.{unit_of, floats_of_unit, unit_at, waiting_of, UnitsTo, FirstOf, DueOf}
 use Rattle.branch.proofs.Rings.{some_is, kept, popped, count_entries, no_entries_lem, floats_local, outside_refl, push_room, push_refused, push_adds, push_lies, push_outside}
 
 -- ---- the events of a removal
@@ -68,18 +68,15 @@ module _ (w : List Float) (p : Place) (q : Ring) where
 
 -- ---- the open unit
 
-pub open_none : open_of no_unit ≡ none
-unfolding open_of ne eq
-open_none = refl
+module _ (bytes : Float) where
+  pub grown_some : (o : Option AccessUnit) (u : AccessUnit) → o ≡ Some u → grown bytes o ≡ Some (record { decode_time = u.decode_time; bytes = u.bytes ⊕ bytes; first_input_time = u.first_input_time })
+  unfolding grown
+  grown_some o u e = simp e
 
-grown_by : (u : AccessUnit) (x : Float) (c : Bool) → ne u.decode_time -∞ ≡ c → open_of (record { decode_time = u.decode_time; bytes = u.bytes ⊕ x; first_input_time = u.first_input_time }) ≡ grown x (open_of u)
-unfolding open_of grown
-grown_by u x true e = simp e
-grown_by u x false e = simp e
-
--- the open unit with more bytes
-pub open_grown : (u : AccessUnit) (x : Float) → open_of (record { decode_time = u.decode_time; bytes = u.bytes ⊕ x; first_input_time = u.first_input_time }) ≡ grown x (open_of u)
-open_grown u x = grown_by u x (ne u.decode_time -∞) refl
+  pub grown_none : (o : Option AccessUnit) → ((u : AccessUnit) → o ≡ Some u → ⊥) → grown bytes o ≡ o
+  unfolding grown
+  grown_none None h = refl
+  grown_none (Some u) h = absurd (h u refl)
 
 -- units that are left as they are
 pub units_same : (w : List Float) (p : Place) (u : Units) (x : Queued) → Lies 3 w p u.pending → x ≡ record { full = false; units = waiting_of w p u } → UnitsTo w p u x (Ok tt) u w
@@ -91,67 +88,66 @@ unfolding unit_at
 added l m f = push_adds l m f unit_of (floats_local 3 unit_of)
 
 module _ (w : List Float) (p : Place) (u : Units) where
-  pub close_none : ne u.open_au.decode_time -∞ ≡ false → close_units p.depth (waiting_of w p u) ≡ record { full = false; units = waiting_of w p u }
-  unfolding close_units close_by waiting_of open_of
+  pub close_none : u.open_au ≡ None → close_units p.depth (waiting_of w p u) ≡ record { full = false; units = waiting_of w p u }
+  unfolding close_units close_by waiting_of
   close_none e = simp e
 
-  close_unit : ne u.open_au.decode_time -∞ ≡ true →
+  close_unit : (a : AccessUnit) → u.open_au ≡ Some a →
       close_units p.depth (waiting_of w p u)
       ≡ cond (eqb u.pending.count p.depth) (record { full = true; units = waiting_of w p u })
-      (record { full = false; units = with_open (waiting_of w p u) (entries 3 unit_at w p u.pending ++ (u.open_au ∷ [])) none })
-  unfolding close_units close_by waiting_of open_of
-  close_unit e = simp (e, count_entries 3 unit_at w p u.pending)
+      (record { full = false; units = with_open (waiting_of w p u) (entries 3 unit_at w p u.pending ++ (a ∷ [])) None })
+  unfolding close_units close_by waiting_of
+  close_unit a e = simp (e, count_entries 3 unit_at w p u.pending)
 
-module _ (w v : List Float) (p : Place) (u : Units) (l : Lies 3 w p u.pending) (isOpen : ne u.open_au.decode_time -∞ ≡ true) (r : Result ⊤ QueueFull) (q : Ring)
-    (m : PushedTo 3 w p u.pending (floats_of_unit u.open_au) r q v) where
+module _ (w v : List Float) (p : Place) (u : Units) (l : Lies 3 w p u.pending) (a : AccessUnit) (isOpen : u.open_au ≡ Some a) (r : Result ⊤ QueueFull) (q : Ring)
+    (m : PushedTo 3 w p u.pending (floats_of_unit a) r q v) where
   pub close_full : (e : QueueFull) (r' : Result ⊤ QueueFull) → r ≡ Err e → IsErr r' →
       UnitsTo w p u (close_units p.depth (waiting_of w p u)) r' (record { pending = q; open_au = u.open_au; access_units = u.access_units; max_delay_seconds = u.max_delay_seconds }) v
   close_full e r' f g =
       let k = push_refused l m (ap is_err f) in
-      rw (k.0.0, k.0.1, close_unit w p u isOpen, k.1) (record { lies = l; outside = outside_refl _ _ w; full = g; state = refl; count = refl })
+      rw (k.0.0, k.0.1, close_unit w p u a isOpen, k.1) (record { lies = l; outside = outside_refl _ _ w; full = g; state = refl; count = refl })
 
   pub close_pushed : r ≡ Ok tt →
-      UnitsTo w p u (close_units p.depth (waiting_of w p u)) (Ok tt) (record { pending = q; open_au = no_unit; access_units = u.access_units; max_delay_seconds = u.max_delay_seconds }) v
+      UnitsTo w p u (close_units p.depth (waiting_of w p u)) (Ok tt) (record { pending = q; open_au = None; access_units = u.access_units; max_delay_seconds = u.max_delay_seconds }) v
   unfolding waiting_of
   close_pushed f =
       let g : is_err r ≡ false = ap is_err f in
-      let e : close_units p.depth (waiting_of w p u) ≡ record { full = false; units = with_open (waiting_of w p u) (entries 3 unit_at w p u.pending ++ (u.open_au ∷ [])) none } =
-      close_unit w p u isOpen ∙ rw (push_room l m g) in
-      rw e (record { lies = push_lies l m; outside = push_outside l m; full = refl; state = rw (added l m g, open_none); count = refl })
+      let e : close_units p.depth (waiting_of w p u) ≡ record { full = false; units = with_open (waiting_of w p u) (entries 3 unit_at w p u.pending ++ (a ∷ [])) None } =
+      close_unit w p u a isOpen ∙ rw (push_room l m g) in
+      rw e (record { lies = push_lies l m; outside = push_outside l m; full = refl; state = rw (added l m g); count = refl })
 
 -- ---- a stamp
 
-abbrev stamped : Delivered → AccessUnit
-stamped d = record { decode_time = d.decode_time; bytes = 0f; first_input_time = d.first_input_time }
-
 module _ (d : Delivered) (depth : ℕ) (x : Waiting) where
-  pub stamp_none : ne d.decode_time -∞ ≡ false → open_units depth (stamp_of d) x ≡ record { full = false; units = x }
-  unfolding open_units stamp_of open_of
+  pub stamp_none : stamp_of d ≡ None → open_units depth (stamp_of d) x ≡ record { full = false; units = x }
+  unfolding open_units
   stamp_none e = simp e
 
-  stamp_full : ne d.decode_time -∞ ≡ true → (close_units depth x).full ≡ true → open_units depth (stamp_of d) x ≡ close_units depth x
-  unfolding open_units stamp_of open_of
-  stamp_full e f = simp (e, f)
+  module _ (a : AccessUnit) (isStamp : stamp_of d ≡ Some a) where
+    stamp_full : (close_units depth x).full ≡ true → open_units depth (stamp_of d) x ≡ close_units depth x
+    unfolding open_units
+    stamp_full f = simp (isStamp, f)
 
-  stamp_next : ne d.decode_time -∞ ≡ true → (close_units depth x).full ≡ false →
-      open_units depth (stamp_of d) x ≡ record { full = false; units = with_open (close_units depth x).units (close_units depth x).units.pending (unit (stamped d)) }
-  unfolding open_units stamp_of open_of
-  stamp_next e f = simp (e, f)
+    stamp_next : (close_units depth x).full ≡ false →
+        open_units depth (stamp_of d) x ≡ record { full = false; units = with_open (close_units depth x).units (close_units depth x).units.pending (Some a) }
+    unfolding open_units
+    stamp_next f = simp (isStamp, f)
 
-module _ (w v : List Float) (p : Place) (u o : Units) (d : Delivered) (isStamp : ne d.decode_time -∞ ≡ true) (r : Result ⊤ QueueFull) (m : UnitsTo w p u (close_units p.depth (waiting_of w p u)) r o v) where
+module _ (w v : List Float) (p : Place) (u o : Units) (d : Delivered) (a : AccessUnit) (isStamp : stamp_of d ≡ Some a) (r : Result ⊤ QueueFull)
+    (m : UnitsTo w p u (close_units p.depth (waiting_of w p u)) r o v) where
   pub open_refused : (e : QueueFull) (r' : Result ⊤ QueueFull) → r ≡ Err e → IsErr r' → UnitsTo w p u (open_units p.depth (stamp_of d) (waiting_of w p u)) r' o v
   open_refused e r' f g =
       let full : (close_units p.depth (waiting_of w p u)).full ≡ true = sym m.full ∙ ap is_err f in
-      rw (stamp_full d p.depth (waiting_of w p u) isStamp full) (record { lies = m.lies; outside = m.outside; full = g ∙ sym full; state = m.state; count = m.count })
+      rw (stamp_full d p.depth (waiting_of w p u) a isStamp full) (record { lies = m.lies; outside = m.outside; full = g ∙ sym full; state = m.state; count = m.count })
 
-  pub open_next : r ≡ Ok tt → UnitsTo w p u (open_units p.depth (stamp_of d) (waiting_of w p u)) (Ok tt) (record { pending = o.pending; open_au = stamped d; access_units = o.access_units; max_delay_seconds = o.max_delay_seconds }) v
-  unfolding waiting_of open_of
+  pub open_next : r ≡ Ok tt → UnitsTo w p u (open_units p.depth (stamp_of d) (waiting_of w p u)) (Ok tt) (record { pending = o.pending; open_au = Some a; access_units = o.access_units; max_delay_seconds = o.max_delay_seconds }) v
+  unfolding waiting_of
   open_next f =
-      rw (stamp_next d p.depth (waiting_of w p u) isStamp (sym m.full ∙ ap is_err f))
+      rw (stamp_next d p.depth (waiting_of w p u) a isStamp (sym m.full ∙ ap is_err f))
       (record {
         lies = m.lies;
         outside = m.outside;
         full = refl;
-        state = rw (← m.state) (simp isStamp);
+        state = rw (← m.state) refl;
         count = m.count;
       })

@@ -7,12 +7,13 @@ use native.Mathlib.Omega.{arith}
 use lib.ListN.{length}
 use lib.Dec.{eqb}
 use lib.Ieee.{Float, le}
+use Rattle.std.specs.Prelude.{Option}
 use Rattle.ieee.specs.Binary64.{0f}
 use Rattle.branch.specs.declared.Run.{Run}
 use Rattle.branch.specs.declared.AccessUnit.{AccessUnit}
 use Rattle.branch.specs.declared.Delivered.{Delivered}
 use Rattle.branch.specs.CumulativeIn.{run_refused}
-use Rattle.branch.specs.MainBranch.{OpenAu, stamp_of}
+use Rattle.branch.specs.MainBranch.{stamp_of}
 use Rattle.branch.specs.VideoBranch.{VideoRates, Video, remove_unit, advance_from, advance, drain_time, finish_video, push_video}
 use Rattle.branch.specs.VideoStep.{VideoChain, VideoFed, and_then, waiting, close_au, open_unit, add_run, deliver, packet_step, end_step, video_step}
 use Rattle.branch.proofs.VideoAdvance.{leaked}
@@ -45,7 +46,7 @@ close_counts : (depth : ℕ) (c : VideoChain) → units_in (close_au depth c).ch
 unfolding close_au
 close_counts depth c = unit-counts.close_counts depth (waiting c)
 
-open_counts : (depth : ℕ) (o : OpenAu) (c : VideoChain) → units_in (open_unit depth o c).chain.branch ≤ units_in c.branch + 1
+open_counts : (depth : ℕ) (o : Option AccessUnit) (c : VideoChain) → units_in (open_unit depth o c).chain.branch ≤ units_in c.branch + 1
 unfolding open_unit
 open_counts depth o c = unit-counts.open_counts depth o (waiting c)
 

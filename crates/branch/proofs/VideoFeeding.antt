@@ -10,9 +10,10 @@ use lib.Dec.{eqb}
 use borrow.Author.Tests.{eq-eqb, ne_eqb}
 use lib.Ieee.{Float, le}
 use Rattle.ieee.specs.Binary64.{◌⊕◌, 0f}
+use Rattle.branch.specs.declared.AccessUnit.{AccessUnit}
 use Rattle.branch.specs.declared.Run.{Run}
 use Rattle.branch.specs.declared.inflow.CumulativeIn.{CumulativeIn}
-use Rattle.std.specs.Prelude.{Result, Ok, Err, is_err, is_ok, IsErr, ⊤}
+use Rattle.std.specs.Prelude.{Result, Ok, Err, is_err, is_ok, IsErr, ⊤, Option}
 use Rattle.branch.specs.declared.queue.Ring.{Ring}
 use Rattle.branch.specs.declared.leak.VideoLayout.{VideoLayout}
 use Rattle.branch.specs.declared.video_branch.VideoBranch.{VideoBranch}
@@ -22,14 +23,14 @@ use Rattle.branch.specs.declared.units.Units.{Units}
 use Rattle.branch.specs.Queue.{SameOutside, floats_at, entries, PushedTo}
 use Rattle.branch.specs.CumulativeIn.{Inflow, run_refused}
 use Rattle.branch.specs.InflowInWork.{run_of, inflow_of, RunPushedTo}
-use Rattle.branch.specs.Units.{OpenAu, Queued, close_units, open_units}
+use Rattle.branch.specs.Units.{Queued, close_units, open_units}
 use Rattle.branch.specs.UnitsInWork.{unit_at, waiting_of, grown_units, UnitsTo}
 use Rattle.branch.specs.VideoBranch.{pushed_leak, push_video}
 use Rattle.branch.specs.VideoStep.{VideoChain, VideoFed, refused, fed, and_then, waiting, with_waiting, queued_to, close_au, open_unit, add_run}
 use Rattle.branch.specs.VideoInWork.{mark_of, mark_at, flow_of, leak_of, LeakLies, video_of, VideoLies, chain_of, Apart, VideoFedTo, queued_run, QueuedTo, marked_leak, marked_run, MarkedTo}
 use Rattle.branch.proofs.Rings.{kept, count_entries, floats_local, lies_kept, outside_refl, outside_then, outside_wider, push_adds, push_lies, push_outside, push_refused}
 use Rattle.branch.proofs.HeaderMarks.{mark_local}
-use Rattle.branch.proofs.UnitQueues.{units_kept, open_grown}
+use Rattle.branch.proofs.UnitQueues.{units_kept}
 
 -- ---- a change of the work elsewhere
 
@@ -82,7 +83,7 @@ module _ (w v : List Float) (m : VideoLayout) (b : VideoBranch) (l : VideoLies w
   unfolding close_au chain_of video_of waiting_of
   units_closed h = subst (λ (z : ℕ). VideoFedTo w m b (queued_to (chain_of w m b) (close_units z (waiting (chain_of w m b)))) r (with_units b u) v) a.units_depth (units_fed w v m b l a _ r u h)
 
-  pub units_opened : (o : OpenAu) → UnitsTo w m.units b.units (open_units m.units.depth o (waiting_of w m.units b.units)) r u v
+  pub units_opened : (o : Option AccessUnit) → UnitsTo w m.units b.units (open_units m.units.depth o (waiting_of w m.units b.units)) r u v
       → VideoFedTo w m b (open_unit m.runs.depth o (chain_of w m b)) r (with_units b u) v
   unfolding open_unit chain_of video_of waiting_of
   units_opened o h = subst (λ (z : ℕ). VideoFedTo w m b (queued_to (chain_of w m b) (open_units z o (waiting (chain_of w m b)))) r (with_units b u) v) a.units_depth (units_fed w v m b l a _ r u h)
@@ -139,7 +140,7 @@ module _ (w v : List Float) (m : VideoLayout) (b : VideoBranch) (run : Run) (met
         units = refl;
         marks = refl;
         full = sym t ∙ p.full;
-        state = rw (p.taken t, marks_same, units_same, open_grown b.units.open_au metric);
+        state = rw (p.taken t, marks_same, units_same);
       }
 
   pub run_refused_lem : (q : QueueFull) (r' : Result ⊤ QueueFull) → r ≡ Err q → IsErr r' → QueuedTo w m b run metric r' (with_runs b.units b.queued) v

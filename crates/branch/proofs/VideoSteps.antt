@@ -6,7 +6,7 @@ use mathlib.Core.List.{List, []}
 use native.Mathlib.Omega.{arith}
 use lib.ListN.{length}
 use borrow.Author.Tests.{ltb-true, leb-true, lt-ltb, le-leb}
-use lib.Ieee.{Float, lt, ne, eq}
+use lib.Ieee.{Float, lt}
 use Rattle.ieee.specs.Binary64.{◌⊕◌, ◌⊘◌, 0f, 1f, 2f, 1e-6f}
 use Rattle.ieee.specs.MaxMin.{max_of}
 use Rattle.events.specs.Event.{when, mb_busy}
@@ -20,7 +20,6 @@ use Rattle.branch.specs.declared.video_branch.VideoBranch.{VideoBranch}
 use Rattle.branch.specs.declared.QueueFull.{QueueFull}
 use Rattle.branch.specs.Queue.{entries, entries_from}
 use Rattle.std.specs.Prelude.{Result, Ok, is_err, ⊤}
-use Rattle.branch.specs.Units.{open_of}
 use Rattle.branch.specs.VideoBranch.{VideoRates, Video, advance, drain_time, finish_video}
 use Rattle.branch.specs.VideoStep.{VideoChain, new_video, waiting, queued_to, close_au, deliver, packet_step, end_step, video_step}
 use Rattle.branch.specs.VideoInWork.{rates_of, leak_of, flow_of, video_of, VideoLies, chain_of, Apart, VideoFedTo, AdvancedTo, layout_of, ready, SteppedTo, new_branch}
@@ -30,7 +29,7 @@ use Rattle.branch.proofs.Rings.{both, ring_fits, lying_fits}
 -- ---- the branch before the first packet
 
 pub new_is : (w : List Float) (m : VideoLayout) → chain_of w m new_branch ≡ new_video
-unfolding new_branch new_video chain_of video_of leak_of flow_of entries entries_from open_of ne eq
+unfolding new_branch new_video chain_of video_of leak_of flow_of entries entries_from
 new_is w m = refl
 
 pub new_lies : (w : List Float) (p : VideoModel) → 0 < p.depth → p.base + 8 * p.depth ≤ length w → VideoLies w (layout_of p) new_branch
@@ -75,7 +74,7 @@ module _ (w v : List Float) (m : VideoLayout) (b : VideoBranch) (k : ℕ) (s : S
     drained = e
 
     end_is : end_step R (close_au depth C)
-        ≡ record { full = false; chain = record { branch = (finish_video R (video_of v m c)).branch; open_au = open_of c.units.open_au }; events = (finish_video R (video_of v m c)).events }
+        ≡ record { full = false; chain = record { branch = (finish_video R (video_of v m c)).branch; open_au = c.units.open_au }; events = (finish_video R (video_of v m c)).events }
     unfolding end_step chain_of
     end_is =
         let i : (close_au depth C).full ≡ false = sym h.full ∙ f in
@@ -107,7 +106,7 @@ module _ (w u : List Float) (m : VideoLayout) (b a : VideoBranch) (d : Delivered
       → SteppedTo w m k s (video_step (rates_of m) m.runs.depth d false t (chain_of w m b)) r c u s'
   unfolding video_step packet_step chain_of
   packet_delivered g y =
-      let arrived : record { branch = video_of w m a; open_au = open_of a.units.open_au } ≡ record { branch = (advance (rates_of m) t (video_of w m b)).branch; open_au = open_of b.units.open_au } = rw (g.state, g.open_au) in
+      let arrived : record { branch = video_of w m a; open_au = a.units.open_au } ≡ record { branch = (advance (rates_of m) t (video_of w m b)).branch; open_au = b.units.open_au } = rw (g.state, g.open_au) in
       record {
         lies = y.lies;
         outside = y.outside;

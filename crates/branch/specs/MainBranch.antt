@@ -1,6 +1,6 @@
 -- `MainBranch`: the main buffer Bn, from which whole access units are removed at their decode times (H.222.0, 2.4.2.3), with the
 -- unit whose bytes still arrive; and one step of its chain. The queues are lists here; depth is how many entries each may have.
-use Rattle.std.specs.Prelude.{ℕ, ◌+◌, Bool, true, false, cond, List, [], ◌∷◌, ◌++◌, Float}
+use Rattle.std.specs.Prelude.{ℕ, ◌+◌, Bool, true, false, cond, List, [], ◌∷◌, ◌++◌, Float, Option, None}
 use Rattle.std.specs.Float.Ieee.{lt}
 use Rattle.ieee.specs.Binary64.{◌⊕◌, ◌⊖◌, +∞, 0f, 1f}
 use Rattle.ieee.specs.MaxMin.{max_of, min_of}
@@ -8,7 +8,6 @@ use Rattle.events.specs.Event.{Event, overflow, when}
 use Rattle.branch.specs.declared.Run.{Run}
 use Rattle.branch.specs.declared.AccessUnit.{AccessUnit}
 use Rattle.branch.specs.declared.Delivered.{Delivered}
-pub use Rattle.branch.specs.Units.{OpenAu, none, unit}
 unfoldable pub use Rattle.branch.specs.Units.{open_of, stamp_of, grown}
 use Rattle.branch.specs.Units.{Waiting, Queued, close_units, open_units, unit_events}
 use Rattle.branch.specs.CumulativeIn.{Inflow, settle, arrived_by, final_total, push_run, run_refused}
@@ -16,7 +15,7 @@ use Rattle.branch.specs.CumulativeIn.{Inflow, settle, arrived_by, final_total, p
 pub record Main : Type 0 where
   pub inflow : Inflow
   pub pending : List AccessUnit
-  pub open_au : OpenAu
+  pub open_au : Option AccessUnit
   pub removed : Float
   pub required : Float
   pub peak : Float
@@ -25,7 +24,7 @@ pub record Main : Type 0 where
   pub max_delay : Float
 
 unfoldable pub new_main : Main
-new_main = record { inflow = record { runs = []; settled = 0f }; pending = []; open_au = none; removed = 0f; required = 0f; peak = 0f; units = 0; max_delay = 0f }
+new_main = record { inflow = record { runs = []; settled = 0f }; pending = []; open_au = None; removed = 0f; required = 0f; peak = 0f; units = 0; max_delay = 0f }
 
 -- ---- drain
 
@@ -137,7 +136,7 @@ unfoldable pub close_au : ℕ → Main → Fed
 close_au depth b = queued_to b (close_units depth (waiting b))
 
 -- a stamp closes the open unit, and opens the next
-unfoldable pub open_unit : ℕ → OpenAu → Main → Fed
+unfoldable pub open_unit : ℕ → Option AccessUnit → Main → Fed
 open_unit depth o b = queued_to b (open_units depth o (waiting b))
 
 -- a run: its bytes are the open unit's too

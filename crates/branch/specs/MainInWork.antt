@@ -12,9 +12,9 @@ use Rattle.branch.specs.declared.main_branch.MainBranch.{MainBranch}
 use Rattle.branch.specs.declared.QueueFull.{QueueFull}
 use Rattle.branch.specs.Queue.{Lies, fits, SameOutside, entries, pop_def}
 use Rattle.branch.specs.InflowInWork.{inflow_of}
-pub use Rattle.branch.specs.UnitsInWork.{unit_of, floats_of_unit, no_unit, no_entries}
+pub use Rattle.branch.specs.UnitsInWork.{unit_of, floats_of_unit, no_entries}
 use Rattle.branch.specs.UnitsInWork.{unit_at, no_units, removed_units}
-use Rattle.branch.specs.MainBranch.{Main, Drained, Fed, close_au, open_of, remove_unit, remove_events, Step, end_step, main_step}
+use Rattle.branch.specs.MainBranch.{Main, Drained, Fed, close_au, remove_unit, remove_events, Step, end_step, main_step}
 
 -- the ring of runs begins at base, and behind it stands that of the pending units, both of depth entries
 abbrev pub runs_place : MainModel → Place
@@ -31,7 +31,7 @@ main_of w p b =
     record {
       inflow = inflow_of w (runs_place p) b.inflow;
       pending = units_of w p b.units.pending;
-      open_au = open_of b.units.open_au;
+      open_au = b.units.open_au;
       removed = b.removed;
       required = b.required;
       peak = b.peak;

@@ -8,26 +8,21 @@ use Rattle.events.specs.Event.{Event, underflow, delay, when}
 use Rattle.branch.specs.declared.AccessUnit.{AccessUnit}
 use Rattle.branch.specs.declared.Delivered.{Delivered}
 
--- the unit whose bytes are arriving, if there is one
-pub data OpenAu : Type 0 where
-  none : OpenAu
-  unit : AccessUnit → OpenAu
+-- the unit that a stamp opens: a stamp of -∞ is none
+unfoldable pub open_of : AccessUnit → Option AccessUnit
+open_of u = cond (ne u.decode_time -∞) (Some u) None
 
--- the code has a decode time of -∞ where there is no unit
-unfoldable pub open_of : AccessUnit → OpenAu
-open_of u = cond (ne u.decode_time -∞) (unit u) none
-
-unfoldable pub stamp_of : Delivered → OpenAu
+unfoldable pub stamp_of : Delivered → Option AccessUnit
 stamp_of d = open_of (record { decode_time = d.decode_time; bytes = 0f; first_input_time = d.first_input_time })
 
-unfoldable pub grown : Float → OpenAu → OpenAu
-grown bytes none = none
-grown bytes (unit u) = unit (record { decode_time = u.decode_time; bytes = u.bytes ⊕ bytes; first_input_time = u.first_input_time })
+unfoldable pub grown : Float → Option AccessUnit → Option AccessUnit
+grown bytes None = None
+grown bytes (Some u) = Some (record { decode_time = u.decode_time; bytes = u.bytes ⊕ bytes; first_input_time = u.first_input_time })
 
 -- the units of a branch, with the chain's figures of them
 pub record Waiting : Type 0 where
   pub pending : List AccessUnit
-  pub open_au : OpenAu
+  pub open_au : Option AccessUnit
   pub units : ℕ
   pub max_delay : Float
 
@@ -42,24 +37,24 @@ refused x = record { full = true; units = x }
 abbrev pub placed : Waiting → Queued
 placed x = record { full = false; units = x }
 
-abbrev pub with_open : Waiting → List AccessUnit → OpenAu → Waiting
+abbrev pub with_open : Waiting → List AccessUnit → Option AccessUnit → Waiting
 with_open x pending open_au = record { pending = pending; open_au = open_au; units = x.units; max_delay = x.max_delay }
 
 -- the open unit becomes a pending one
-unfoldable pub close_by : ℕ → Waiting → OpenAu → Queued
-close_by depth x none = placed x
-close_by depth x (unit u) = cond (eqb (length x.pending) depth) (refused x) (placed (with_open x (x.pending ++ (u ∷ [])) none))
+unfoldable pub close_by : ℕ → Waiting → Option AccessUnit → Queued
+close_by depth x None = placed x
+close_by depth x (Some u) = cond (eqb (length x.pending) depth) (refused x) (placed (with_open x (x.pending ++ (u ∷ [])) None))
 
 unfoldable pub close_units : ℕ → Waiting → Queued
 close_units depth x = close_by depth x x.open_au
 
 -- a stamp closes the open unit, and opens the next
 abbrev pub opened : AccessUnit → Queued → Queued
-opened u q = cond q.full q (placed (with_open q.units q.units.pending (unit u)))
+opened u q = cond q.full q (placed (with_open q.units q.units.pending (Some u)))
 
-unfoldable pub open_units : ℕ → OpenAu → Waiting → Queued
-open_units depth none x = placed x
-open_units depth (unit u) x = opened u (close_units depth x)
+unfoldable pub open_units : ℕ → Option AccessUnit → Waiting → Queued
+open_units depth None x = placed x
+open_units depth (Some u) x = opened u (close_units depth x)
 
 -- the first unit, where it is due
 unfoldable pub due_now : List AccessUnit → Float → Option AccessUnit

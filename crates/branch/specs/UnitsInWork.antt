@@ -1,7 +1,7 @@
 -- The units of a branch whose queue stands in a ring of the work, as a list; what the functions of `Units` ensure.
 use Rattle.std.specs.Prelude.{ℕ, ◌+◌, ◌*◌, ◌<◌, ◌≡◌, ⊤, Option, Some, None, Result, List, [], ◌∷◌, get_or, is_err, Float}
 use Rattle.std.specs.Float.{nan}
-use Rattle.ieee.specs.Binary64.{◌⊕◌, ◌⊖◌, 0f, -∞}
+use Rattle.ieee.specs.Binary64.{◌⊖◌, 0f}
 use Rattle.ieee.specs.MaxMin.{max_of}
 use Rattle.branch.specs.declared.AccessUnit.{AccessUnit}
 use Rattle.branch.specs.declared.QueueFull.{QueueFull}
@@ -9,7 +9,7 @@ use Rattle.branch.specs.declared.queue.Place.{Place}
 use Rattle.branch.specs.declared.queue.Ring.{Ring}
 use Rattle.branch.specs.declared.units.Units.{Units}
 use Rattle.branch.specs.Queue.{Lies, SameOutside, floats_at, entries, pop_def}
-use Rattle.branch.specs.Units.{open_of, Waiting, Queued, due_now}
+use Rattle.branch.specs.Units.{grown, Waiting, Queued, due_now}
 
 -- an entry's floats are the decode time, the bytes and the first input time
 abbrev pub unit_of : List Float → AccessUnit
@@ -23,17 +23,14 @@ unit_at w p = unit_of (floats_at 3 w p)
 
 unfoldable pub waiting_of : List Float → Place → Units → Waiting
 waiting_of w p u =
-    record { pending = entries 3 unit_at w p u.pending; open_au = open_of u.open_au; units = u.access_units; max_delay = u.max_delay_seconds }
+    record { pending = entries 3 unit_at w p u.pending; open_au = u.open_au; units = u.access_units; max_delay = u.max_delay_seconds }
 
 -- before the first packet
-abbrev pub no_unit : AccessUnit
-no_unit = record { decode_time = -∞; bytes = 0f; first_input_time = 0f }
-
 abbrev pub no_entries : Ring
 no_entries = record { head = 0; count = 0 }
 
 abbrev pub no_units : Units
-no_units = record { pending = no_entries; open_au = no_unit; access_units = 0; max_delay_seconds = 0f }
+no_units = record { pending = no_entries; open_au = None; access_units = 0; max_delay_seconds = 0f }
 
 -- units that come to x, where a push was or was not refused; v is the work after it
 pub record UnitsTo (w : List Float) (p : Place) (u : Units) (x : Queued) (r : Result ⊤ QueueFull) (u' : Units) (v : List Float) : Type 0 where
@@ -48,7 +45,7 @@ abbrev pub grown_units : Units → Float → Units
 grown_units u bytes =
     record {
       pending = u.pending;
-      open_au = record { decode_time = u.open_au.decode_time; bytes = u.open_au.bytes ⊕ bytes; first_input_time = u.open_au.first_input_time };
+      open_au = grown bytes u.open_au;
       access_units = u.access_units;
       max_delay_seconds = u.max_delay_seconds;
     }

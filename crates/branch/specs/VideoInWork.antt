@@ -27,7 +27,7 @@ use Rattle.branch.specs.declared.QueueFull.{QueueFull}
 use Rattle.branch.specs.Queue.{Lies, fits, SameOutside, entries, floats_at, pop_def}
 use Rattle.branch.specs.InflowInWork.{inflow_of}
 use Rattle.branch.specs.CumulativeIn.{Inflow, settle, arrived_by, run_refused}
-use Rattle.branch.specs.Units.{open_of, grown}
+use Rattle.branch.specs.Units.{grown}
 unfoldable pub use Rattle.branch.specs.UnitsInWork.{unit_at}
 use Rattle.branch.specs.UnitsInWork.{no_entries, no_units, removed_units}
 use Rattle.branch.specs.VideoStep.{VideoChain, VideoFed, close_au, VideoStep, video_step, end_step}
@@ -177,7 +177,7 @@ pub record RemovedBy (m : VideoLayout) (b : VideoBranch) (u : AccessUnit) (k : �
   pub events : (w : List Float) → after ≡ noted_all k (remove_events (video_of w m b) u) before
 
 -- a branch that comes to x, with the events of x in the slots; its open unit stays
-pub record AdvancedTo (w : List Float) (m : VideoLayout) (k : ℕ) (u : AccessUnit) (before : Slots) (x : Advanced) (r : VideoBranch) (after : Slots) : Type 0 where
+pub record AdvancedTo (w : List Float) (m : VideoLayout) (k : ℕ) (u : Option AccessUnit) (before : Slots) (x : Advanced) (r : VideoBranch) (after : Slots) : Type 0 where
   pub lies : VideoLies w m r
   pub open_au : r.units.open_au ≡ u
   pub state : video_of w m r ≡ x.branch
@@ -187,7 +187,7 @@ pub record AdvancedTo (w : List Float) (m : VideoLayout) (k : ℕ) (u : AccessUn
 
 -- the branch with the unit whose bytes still arrive
 unfoldable pub chain_of : List Float → VideoLayout → VideoBranch → VideoChain
-chain_of w m b = record { branch = video_of w m b; open_au = open_of b.units.open_au }
+chain_of w m b = record { branch = video_of w m b; open_au = b.units.open_au }
 
 -- the rings stand one behind the other, with places for the same count of entries
 pub record Apart (m : VideoLayout) : Type 0 where

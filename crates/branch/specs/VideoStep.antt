@@ -1,18 +1,19 @@
 -- One step of a video chain: a packet that arrives, or the end. The queues are lists here; depth is how many entries each may have.
-use Rattle.std.specs.Prelude.{ℕ, Bool, true, false, cond, ◌&&◌, ◌||◌, List, [], length, eqb, Float}
+use Rattle.std.specs.Prelude.{ℕ, Bool, true, false, cond, ◌&&◌, ◌||◌, List, [], length, eqb, Float, Option, None}
 use Rattle.std.specs.Float.Ieee.{le}
 use Rattle.ieee.specs.Binary64.{0f, -∞}
 use Rattle.events.specs.Event.{Event}
+use Rattle.branch.specs.declared.AccessUnit.{AccessUnit}
 use Rattle.branch.specs.declared.Run.{Run}
 use Rattle.branch.specs.declared.Delivered.{Delivered}
 use Rattle.branch.specs.CumulativeIn.{run_refused}
-use Rattle.branch.specs.Units.{OpenAu, none, grown, stamp_of, Waiting, Queued, close_units, open_units}
+use Rattle.branch.specs.Units.{grown, stamp_of, Waiting, Queued, close_units, open_units}
 use Rattle.branch.specs.VideoBranch.{VideoRates, Video, Advanced, advance, finish_video, push_video}
 
 -- the branch, and the unit whose bytes still arrive
 pub record VideoChain : Type 0 where
   pub branch : Video
-  pub open_au : OpenAu
+  pub open_au : Option AccessUnit
 
 unfoldable pub new_video : VideoChain
 new_video =
@@ -32,7 +33,7 @@ new_video =
         max_delay = 0f;
         units = 0;
       };
-      open_au = none;
+      open_au = None;
     }
 
 -- ---- what a packet delivers
@@ -71,7 +72,7 @@ unfoldable pub close_au : ℕ → VideoChain → VideoFed
 close_au depth c = queued_to c (close_units depth (waiting c))
 
 -- a stamp closes the open unit, and opens the next
-unfoldable pub open_unit : ℕ → OpenAu → VideoChain → VideoFed
+unfoldable pub open_unit : ℕ → Option AccessUnit → VideoChain → VideoFed
 open_unit depth o c = queued_to c (open_units depth o (waiting c))
 
 -- a run, where there are bytes: content is the open unit's too, header bytes add nothing to it
@@ -93,7 +94,7 @@ pub record VideoStep : Type 0 where
   pub chain : VideoChain
   pub events : List Event
 
-unfoldable pub packet_step : ℕ → Delivered → OpenAu → Advanced → VideoStep
+unfoldable pub packet_step : ℕ → Delivered → Option AccessUnit → Advanced → VideoStep
 packet_step depth d o a =
     record {
       full = (deliver depth d (record { branch = a.branch; open_au = o })).full;

@@ -37,7 +37,8 @@ pub struct Flow {
     pub eb_peak: f64,
 }
 
-// The leak. busy_since is -infinity while MBn is not busy, and proc_time is -infinity before the first leak: floats alone, no Option.
+// The leak. busy_since is -infinity while MBn is not busy, and proc_time is -infinity before the first leak: the definition, over lists
+// and floats, has them so too.
 #[derive(Clone, Copy)]
 pub struct Leak {
     pub mb_in: CumulativeIn,

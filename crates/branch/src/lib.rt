@@ -29,8 +29,8 @@ pub struct AccessUnit {
 }
 
 // What a packet delivers from the transport buffer: the header bytes up to the end of a stamp, those behind, and the content.
-// 0.0 bytes are no run. The stamp's decode time is -infinity where there is none, and no Option, so that states hold floats alone, which
-// spares copies for each packet; first_input_time is when its unit's first byte came.
+// 0.0 bytes are no run. The stamp's decode time is -infinity where there is none, as transport's definition of a stamp's time has it; of
+// it `stamped` makes an Option. first_input_time is when its unit's first byte came.
 #[derive(Clone, Copy)]
 pub struct Delivered {
     pub decode_time: f64,

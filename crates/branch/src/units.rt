@@ -1,40 +1,22 @@
 // `Units`: the access units of a branch, which are removed whole at their decode times (H.222.0, 2.4.2.3).
 ghost use Rattle.std.specs.Prelude.{◌≡◌, ◌+◌, ◌≤◌, ◌<◌};
-ghost use Rattle.std.specs.Float.Ieee.{ne};
-ghost use Rattle.ieee.specs.Binary64.{0f, -∞};
 ghost use Rattle.events.specs.Slots.{noted_all};
 ghost use Rattle.branch.specs.Queue.{Lies};
 ghost use Rattle.branch.specs.Units.{close_units, open_units, stamp_of, unit_events};
-ghost use Rattle.branch.specs.UnitsInWork.{floats_of_unit, no_unit, no_units, waiting_of, UnitsTo, grown_units, FirstOf, DueOf, removed_units};
+ghost use Rattle.branch.specs.UnitsInWork.{floats_of_unit, no_units, waiting_of, UnitsTo, grown_units, FirstOf, DueOf, removed_units};
 
 use crate::queue::{Place, Ring};
 use crate::{AccessUnit, Delivered, QueueFull};
 use events::{EventKind, Slots};
 
-// The units that are pending, in a ring of the work, and the one whose bytes still arrive; and what the removals tell. The open unit's
-// decode time is -infinity where there is none, so that states hold floats alone. Place and work are handed on beside it (see Place).
+// The units that are pending, in a ring of the work, and the one whose bytes still arrive; and what the removals tell. Place and
+// work are handed on beside it (see Place).
 #[derive(Clone, Copy)]
 pub struct Units {
     pub pending: Ring,
-    pub open_au: AccessUnit,
+    pub open_au: Option<AccessUnit>,
     pub access_units: u64,
     pub max_delay_seconds: f64,
-}
-
-fn no_unit() -> AccessUnit
-    ensures { result ≡ no_unit }
-{
-    AccessUnit {
-        decode_time: f64::NEG_INFINITY,
-        bytes: 0.0,
-        first_input_time: 0.0,
-    }
-}
-
-fn is_open(u: AccessUnit) -> bool
-    ensures { result ≡ ne u.decode_time -∞ }
-{
-    u.decode_time != f64::NEG_INFINITY
 }
 
 // The unit as an entry of the ring of pending units.
@@ -61,6 +43,22 @@ pub(crate) fn note_removal(arrived: f64, required: f64, u: AccessUnit, slots: &m
     slots.note_kind_if(delay > 1.0 + 1e-6, k, EventKind::Delay, delay, at);
 }
 
+impl Delivered {
+    // The unit that the stamp opens.
+    fn stamped(self) -> Option<AccessUnit>
+        ensures { result ≡ stamp_of self }
+    {
+        if self.decode_time != f64::NEG_INFINITY {
+            return Some(AccessUnit {
+                decode_time: self.decode_time,
+                bytes: 0.0,
+                first_input_time: self.first_input_time,
+            });
+        }
+        None
+    }
+}
+
 impl Units {
     // Nothing is pending and no unit is open.
     pub(crate) fn new() -> Units
@@ -68,7 +66,7 @@ impl Units {
     {
         Units {
             pending: Ring { head: 0, count: 0 },
-            open_au: no_unit(),
+            open_au: None,
             access_units: 0,
             max_delay_seconds: 0.0,
         }
@@ -80,37 +78,36 @@ impl Units {
         requires { Lies 3 work.old w self.old.pending }
         ensures { UnitsTo work.old w self.old (close_units w.depth (waiting_of work.old w self.old)) result self.new work.new }
     {
-        if !is_open(self.open_au) {
+        let Some(u) = self.open_au else {
             return Ok(());
-        }
-        self.pending.push(w, work, entry_of(self.open_au))?;
-        self.open_au = no_unit();
+        };
+        self.pending.push(w, work, entry_of(u))?;
+        self.open_au = None;
         Ok(())
     }
 
     // A stamp closes the open unit, and opens the next.
-    #[tactic(auto, using(crate::proofs::UnitQueues::units_same, crate::proofs::UnitQueues::stamp_none, crate::proofs::UnitQueues::open_next))]
+    #[tactic(auto, using(crate::proofs::UnitQueues::units_same, crate::proofs::UnitQueues::stamp_none))]
     pub(crate) fn open(&mut self, w: Place, work: &mut [f64], d: Delivered) -> Result<(), QueueFull>
         requires { Lies 3 work.old w self.old.pending }
         ensures { UnitsTo work.old w self.old (open_units w.depth (stamp_of d) (waiting_of work.old w self.old)) result self.new work.new }
     {
-        let u = AccessUnit {
-            decode_time: d.decode_time,
-            bytes: 0.0,
-            first_input_time: d.first_input_time,
+        let Some(u) = d.stamped() else {
+            return Ok(());
         };
-        if is_open(u) {
-            self.close(w, work)?;
-            self.open_au = u;
-        }
+        self.close(w, work)?;
+        self.open_au = Some(u);
         Ok(())
     }
 
     // Bytes of the open unit.
+    #[tactic(auto, using(crate::proofs::UnitQueues::grown_some, crate::proofs::UnitQueues::grown_none))]
     pub(crate) fn grow(&mut self, bytes: f64)
         ensures { self.new ≡ grown_units self.old bytes }
     {
-        self.open_au.bytes = self.open_au.bytes + bytes;
+        if let Some(u) = &mut self.open_au {
+            u.bytes = u.bytes + bytes;
+        }
     }
 
     // The first pending unit.

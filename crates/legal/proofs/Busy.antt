@@ -15,7 +15,7 @@ use Rattle.branch.specs.declared.AccessUnit.{AccessUnit}
 use Rattle.branch.specs.declared.Delivered.{Delivered}
 use Rattle.std.specs.Prelude.{Option, Some, None}
 use Rattle.branch.specs.CumulativeIn.{run_refused, settle, time_of_cumulative}
-use Rattle.branch.specs.MainBranch.{OpenAu, stamp_of}
+use Rattle.branch.specs.MainBranch.{stamp_of}
 use Rattle.branch.specs.VideoBranch.{VideoRates, Leak, longest_seen, looked, stalled, gone, Turned, on, break, arriving, pace_take, filled, paced, backlogged, step, mb_fullness, eb_room, turn, turns, budget, closed, started, ran, leak_until, transfer, Video, with_removed, remove_unit, advance_from, advance, drain_time, finish_video, pushed_leak, push_video}
 use Rattle.branch.specs.VideoStep.{VideoChain, new_video, VideoFed, fed, refused, and_then, close_au, open_unit, add_run, deliver, packet_step, end_step, video_step}
 use Rattle.branch.proofs.VideoAdvance.{leaked}
@@ -122,7 +122,7 @@ then_fits : (x : VideoFed) (g : VideoChain → VideoFed) → BusyFits x.chain.br
 unfolding and_then
 then_fits x g h k = either FedFits x.full x (g x.chain) h (k x.chain h)
 
-open_fits : (depth : ℕ) (o : OpenAu) (c : VideoChain) → BusyFits c.branch.leak → BusyFits (open_unit depth o c).chain.branch.leak
+open_fits : (depth : ℕ) (o : Option AccessUnit) (c : VideoChain) → BusyFits c.branch.leak → BusyFits (open_unit depth o c).chain.branch.leak
 unfolding open_unit
 open_fits depth o c h = h
 

@@ -8,12 +8,13 @@ use mathlib.Core.Bool.{Bool, true, false, cond, true≢false}
 use mathlib.Core.List.{List, [], ◌∷◌, ◌++◌}
 use lib.Dec.{lit≤}
 use lib.Ieee.{Float, lt, of_bits}
+use Rattle.std.specs.Prelude.{Option}
 use Rattle.branch.specs.declared.AccessUnit.{AccessUnit}
 use Rattle.branch.specs.declared.Delivered.{Delivered}
 use Rattle.branch.specs.declared.Run.{Run}
 use Rattle.branch.specs.CumulativeIn.{push_run, run_refused}
 use Rattle.branch.specs.Units.{Waiting, with_open}
-use Rattle.branch.specs.MainBranch.{Main, OpenAu, Fed, fed, refused, and_then, waiting, with_waiting, close_au, open_unit, grown, add_bytes, add_run, stamp_of, deliver, drain, drain_from, after, remove_events, remove_unit, finish, packet_step, end_step, main_step, Step}
+use Rattle.branch.specs.MainBranch.{Main, Fed, fed, refused, and_then, waiting, with_waiting, close_au, open_unit, grown, add_bytes, add_run, stamp_of, deliver, drain, drain_from, after, remove_events, remove_unit, finish, packet_step, end_step, main_step, Step}
 use Rattle.bounds.specs.Events.{EventsIn, FewEvents, no_events}
 use Rattle.bounds.specs.Main.{MainBounded, SizeIn}
 use Rattle.bounds.specs.Runs.{RunIs, byte_limit}
@@ -27,7 +28,7 @@ use Rattle.model_bounds.proofs.Open.{RunIn, no_run, a_run, StampIn, DeliveredIn,
 use Rattle.model_bounds.proofs.Steps.{TakesUnits, UnitsIn, units_closed, units_opened, Kept, kept_more, delivered}
 
 -- the open unit is no part of the bounds
-with_open_lem : {n q p : ℕ} (b : Main) (o : OpenAu) → MainBounded n q p b → MainBounded n q p (with_waiting b (with_open (waiting b) b.pending o))
+with_open_lem : {n q p : ℕ} (b : Main) (o : Option AccessUnit) → MainBounded n q p b → MainBounded n q p (with_waiting b (with_open (waiting b) b.pending o))
 with_open_lem b o m =
     record {
       few = m.few;
@@ -97,7 +98,7 @@ pub main_closed : {u N k : ℕ} (depth : ℕ) (b : Main) → MainKept u N k b �
 unfolding close_au
 main_closed depth b m = with_units b m (units_closed (takes b) depth (waiting b) (units_in b m))
 
-main_opened : {u N k : ℕ} (depth : ℕ) (o : OpenAu) (b : Main) → StampIn o → MainKept u N k b → MainKept u N (suc k) (open_unit depth o b).branch
+main_opened : {u N k : ℕ} (depth : ℕ) (o : Option AccessUnit) (b : Main) → StampIn o → MainKept u N k b → MainKept u N (suc k) (open_unit depth o b).branch
 unfolding open_unit
 main_opened depth o b s m = with_units b m (units_opened (takes b) depth o (waiting b) s (units_in b m))
 

@@ -7,13 +7,14 @@ use mathlib.Core.Path.{◌≡◌}
 use mathlib.Core.List.{List, []}
 use lib.ListN.{length}
 use lib.Ieee.{Float, of_bits}
+use Rattle.std.specs.Prelude.{Option, Some, None}
 use Rattle.ieee.specs.Binary64.{0f}
 use Rattle.ieee.specs.Whole.{Is}
 use Rattle.ieee.proofs.Whole.{plain_is}
 use Rattle.branch.specs.declared.AccessUnit.{AccessUnit}
 use Rattle.branch.specs.declared.Delivered.{Delivered}
 use Rattle.branch.specs.declared.Run.{Run}
-use Rattle.branch.specs.MainBranch.{OpenAu, none, unit, grown, stamp_of}
+use Rattle.branch.specs.MainBranch.{grown, stamp_of}
 use Rattle.events.specs.Event.{Event}
 use Rattle.bounds.specs.Events.{FewEvents}
 use Rattle.bounds.specs.Runs.{RunIs, byte_limit}
@@ -28,9 +29,9 @@ pub data RunIn : Run → ℕ → Type 0 where
   a_run : {r : Run} {j : ℕ} → RunIs r j → RunIn r j
 
 -- no stamp, or one that opens a unit without bytes
-pub data StampIn : OpenAu → Type 0 where
-  no_stamp : StampIn none
-  a_stamp : {u : AccessUnit} → UnitIs u 0 → StampIn (unit u)
+pub data StampIn : Option AccessUnit → Type 0 where
+  no_stamp : StampIn None
+  a_stamp : {u : AccessUnit} → UnitIs u 0 → StampIn (Some u)
 
 pub record DeliveredIn (i j l : ℕ) (d : Delivered) : Type 0 where
   pub stamp : StampIn (stamp_of d)
@@ -39,7 +40,7 @@ pub record DeliveredIn (i j l : ℕ) (d : Delivered) : Type 0 where
   pub body : RunIn d.body l
 
 -- ---- the open unit
-pub open_more : {n k q p : ℕ} {o : OpenAu} (n' k' : ℕ) → n ≤ n' → k ≤ k' → OpenIn n k q p o → OpenIn n' k' q p o
+pub open_more : {n k q p : ℕ} {o : Option AccessUnit} (n' k' : ℕ) → n ≤ n' → k ≤ k' → OpenIn n k q p o → OpenIn n' k' q p o
 open_more n' k' h g (none_open a b) = none_open (le_trans a h) (le_trans b g)
 open_more n' k' h g (one_open j u a b) = one_open j u (le_trans a h) (le_trans b g)
 
@@ -48,7 +49,7 @@ unfolding of_bits
 zero_is = plain_is 0
 
 -- j more bytes, of which i are the open unit's
-pub open_grows : {n k q p : ℕ} {o : OpenAu} (x : Float) (i j : ℕ) → Is x i → i ≤ j → n + j ≤ byte_limit → OpenIn n k q p o → OpenIn (n + j) k q p (grown x o)
+pub open_grows : {n k q p : ℕ} {o : Option AccessUnit} (x : Float) (i j : ℕ) → Is x i → i ≤ j → n + j ≤ byte_limit → OpenIn n k q p o → OpenIn (n + j) k q p (grown x o)
 unfolding grown
 open_grows {n} {k} {q} {p} x i j e h few (none_open a b) = none_open (more q n j a) b
   where
@@ -65,7 +66,7 @@ open_grows {n} {k} {q} {p} x i j e h few (one_open {u = u} l w a b) =
     more : (q l n i j : ℕ) → q + l ≤ n → i ≤ j → q + (l + i) ≤ n + j
     more q l n i j a h = omega arith
 
-pub closed_few : {n k q p : ℕ} {o : OpenAu} → OpenIn n k q p o → p ≤ k
+pub closed_few : {n k q p : ℕ} {o : Option AccessUnit} → OpenIn n k q p o → p ≤ k
 closed_few (none_open a b) = b
 closed_few {n} {k} {q} {p} (one_open j u a b) = less p k b
   where

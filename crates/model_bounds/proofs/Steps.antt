@@ -8,8 +8,9 @@ use mathlib.Core.Bool.{Bool, true, false, cond}
 use mathlib.Core.List.{[], ◌∷◌, ◌++◌}
 use lib.Dec.{eqb}
 use lib.ListN.{length}
+use Rattle.std.specs.Prelude.{Option, Some, None}
 use Rattle.branch.specs.declared.AccessUnit.{AccessUnit}
-use Rattle.branch.specs.Units.{Waiting, OpenAu, none, unit, refused, placed, with_open, close_by, close_units, opened, open_units}
+use Rattle.branch.specs.Units.{Waiting, refused, placed, with_open, close_by, close_units, opened, open_units}
 use Rattle.bounds.specs.Runs.{byte_limit}
 use Rattle.bounds.specs.Units.{UnitIs}
 use Rattle.model_bounds.specs.Chain.{OpenIn, none_open, one_open}
@@ -19,8 +20,8 @@ use Rattle.model_bounds.proofs.Open.{StampIn, no_stamp, a_stamp, open_more}
 -- In q p x: with the units x the branch, to which n bytes have come, is within its bounds, q bytes in p units being closed.
 -- So it is with another open unit, and with a unit of j bytes more in the queue.
 pub record TakesUnits (n : ℕ) (In : ℕ → ℕ → Waiting → Type 0) : Type 0 where
-  pub any_open : {q p : ℕ} (x : Waiting) (o : OpenAu) → In q p x → In q p (with_open x x.pending o)
-  pub pended : {q p : ℕ} (x : Waiting) (w : AccessUnit) (j : ℕ) (o : OpenAu) → UnitIs w j → q + j ≤ n → In q p x
+  pub any_open : {q p : ℕ} (x : Waiting) (o : Option AccessUnit) → In q p x → In q p (with_open x x.pending o)
+  pub pended : {q p : ℕ} (x : Waiting) (w : AccessUnit) (j : ℕ) (o : Option AccessUnit) → UnitIs w j → q + j ≤ n → In q p x
       → In (q + j) (p + 1) (with_open x (x.pending ++ (w ∷ [])) o)
 
 -- the units x, of which k at most have come and u are removed
@@ -35,31 +36,31 @@ more_units : (k : ℕ) → k ≤ suc k
 more_units k = omega arith
 
 module _ {n : ℕ} {In : ℕ → ℕ → Waiting → Type 0} (takes : TakesUnits n In) (depth : ℕ) where
-  closed_by : {u k q p : ℕ} (x : Waiting) (o : OpenAu) → In q p x → OpenIn n k q p o → x.open_au ≡ o → x.units ≡ u
+  closed_by : {u k q p : ℕ} (x : Waiting) (o : Option AccessUnit) → In q p x → OpenIn n k q p o → x.open_au ≡ o → x.units ≡ u
       → UnitsIn n In u k (close_by depth x o).units
   unfolding close_by
-  closed_by {u} {k} {q} {p} x none m i e s =
+  closed_by {u} {k} {q} {p} x None m i e s =
       record { closed_bytes = q; closed_units = p; bounded = m; open_unit = subst (OpenIn n k q p) (sym e) i; same = s }
-  closed_by {u} {k} {q} {p} x (unit w) m (one_open j i few less) e s = go (eqb (length x.pending) depth)
+  closed_by {u} {k} {q} {p} x (Some w) m (one_open j i few less) e s = go (eqb (length x.pending) depth)
     where
-      go : (t : Bool) → UnitsIn n In u k (cond t (refused x) (placed (with_open x (x.pending ++ (w ∷ [])) none))).units
+      go : (t : Bool) → UnitsIn n In u k (cond t (refused x) (placed (with_open x (x.pending ++ (w ∷ [])) None))).units
       go true =
           record { closed_bytes = q; closed_units = p; bounded = m; open_unit = subst (OpenIn n k q p) (sym e) (one_open j i few less); same = s }
       go false =
-          record { closed_bytes = q + j; closed_units = p + 1; bounded = takes.pended x w j none i few m; open_unit = none_open few less; same = s }
+          record { closed_bytes = q + j; closed_units = p + 1; bounded = takes.pended x w j None i few m; open_unit = none_open few less; same = s }
 
-  opened_by : {u k q p : ℕ} (x : Waiting) (o : OpenAu) (z : AccessUnit) → UnitIs z 0 → In q p x → OpenIn n k q p o → x.open_au ≡ o → x.units ≡ u
+  opened_by : {u k q p : ℕ} (x : Waiting) (o : Option AccessUnit) (z : AccessUnit) → UnitIs z 0 → In q p x → OpenIn n k q p o → x.open_au ≡ o → x.units ≡ u
       → UnitsIn n In u (suc k) (opened z (close_by depth x o)).units
   unfolding close_by
-  opened_by {u} {k} {q} {p} x none z y m (none_open a less) e s =
-      record { closed_bytes = q; closed_units = p; bounded = takes.any_open x (unit z) m; open_unit = one_open 0 y (zero q n a) (one p k less); same = s }
+  opened_by {u} {k} {q} {p} x None z y m (none_open a less) e s =
+      record { closed_bytes = q; closed_units = p; bounded = takes.any_open x (Some z) m; open_unit = one_open 0 y (zero q n a) (one p k less); same = s }
     where
       zero : (q n : ℕ) → q ≤ n → q + 0 ≤ n
       zero q n h = omega arith
 
       one : (p k : ℕ) → p ≤ k → p + 1 ≤ suc k
       one p k h = omega arith
-  opened_by {u} {k} {q} {p} x (unit w) z y m (one_open j i few less) e s = go (eqb (length x.pending) depth)
+  opened_by {u} {k} {q} {p} x (Some w) z y m (one_open j i few less) e s = go (eqb (length x.pending) depth)
     where
       zero : (q j n : ℕ) → q + j ≤ n → q + j + 0 ≤ n
       zero q j n h = omega arith
@@ -67,7 +68,7 @@ module _ {n : ℕ} {In : ℕ → ℕ → Waiting → Type 0} (takes : TakesUnits
       one : (p k : ℕ) → p + 1 ≤ k → p + 1 + 1 ≤ suc k
       one p k h = omega arith
 
-      go : (t : Bool) → UnitsIn n In u (suc k) (opened z (cond t (refused x) (placed (with_open x (x.pending ++ (w ∷ [])) none)))).units
+      go : (t : Bool) → UnitsIn n In u (suc k) (opened z (cond t (refused x) (placed (with_open x (x.pending ++ (w ∷ [])) None)))).units
       go true =
           record {
             closed_bytes = q;
@@ -80,7 +81,7 @@ module _ {n : ℕ} {In : ℕ → ℕ → Waiting → Type 0} (takes : TakesUnits
           record {
             closed_bytes = q + j;
             closed_units = p + 1;
-            bounded = takes.pended x w j (unit z) i few m;
+            bounded = takes.pended x w j (Some z) i few m;
             open_unit = one_open 0 y (zero q j n few) (one p k less);
             same = s;
           }
@@ -89,9 +90,9 @@ module _ {n : ℕ} {In : ℕ → ℕ → Waiting → Type 0} (takes : TakesUnits
   unfolding close_units
   units_closed x m = closed_by x x.open_au m.bounded m.open_unit refl m.same
 
-  pub units_opened : {u k : ℕ} (o : OpenAu) (x : Waiting) → StampIn o → UnitsIn n In u k x → UnitsIn n In u (suc k) (open_units depth o x).units
+  pub units_opened : {u k : ℕ} (o : Option AccessUnit) (x : Waiting) → StampIn o → UnitsIn n In u k x → UnitsIn n In u (suc k) (open_units depth o x).units
   unfolding open_units close_units
-  units_opened {u} {k} none x no_stamp m =
+  units_opened {u} {k} None x no_stamp m =
       record {
         closed_bytes = m.closed_bytes;
         closed_units = m.closed_units;
@@ -99,7 +100,7 @@ module _ {n : ℕ} {In : ℕ → ℕ → Waiting → Type 0} (takes : TakesUnits
         open_unit = open_more n (suc k) (le_refl n) (more_units k) m.open_unit;
         same = m.same;
       }
-  units_opened (unit z) x (a_stamp y) m = opened_by x x.open_au z y m.bounded m.open_unit refl m.same
+  units_opened (Some z) x (a_stamp y) m = opened_by x x.open_au z y m.bounded m.open_unit refl m.same
 
 -- ---- what a packet delivers
 -- a branch or chain to which N bytes at most have come, in k units at most, and that has removed u units

@@ -9,12 +9,14 @@ use mathlib.Core.List.{[]}
 use lib.Dec.{T, eqb}
 use lib.ListN.{length}
 use lib.Ieee.{Float, binary64, fits, le, of_bits}
+use Rattle.std.specs.Prelude.{Option}
 use Rattle.ieee.specs.Binary64.{0f, ◌⊕◌}
 use Rattle.ieee.specs.Whole.{Is}
+use Rattle.branch.specs.declared.AccessUnit.{AccessUnit}
 use Rattle.branch.specs.declared.Delivered.{Delivered}
 use Rattle.branch.specs.declared.Run.{Run}
 use Rattle.branch.specs.CumulativeIn.{run_refused}
-use Rattle.branch.specs.Units.{Waiting, OpenAu, grown, stamp_of}
+use Rattle.branch.specs.Units.{Waiting, grown, stamp_of}
 use Rattle.branch.specs.VideoBranch.{Video, VideoRates, advance, finish_video, push_video, pushed_leak}
 use Rattle.branch.specs.VideoStep.{VideoChain, VideoFed, VideoStep, fed, refused, and_then, waiting, with_waiting, close_au, open_unit, add_run, deliver, packet_step, end_step, video_step}
 use Rattle.bounds.specs.Events.{EventsIn, FewEvents, UpTo, latest_time, no_events}
@@ -91,7 +93,7 @@ pub video_closed : {u N k a : ℕ} (depth : ℕ) (c : VideoChain) → VideoKept 
 unfolding close_au
 video_closed depth c m = with_units c m (units_closed (takes c m.holds.advances) depth (waiting c) (units_in c m))
 
-video_opened : {u N k a : ℕ} (depth : ℕ) (o : OpenAu) (c : VideoChain) → StampIn o → VideoKept u N k a c → VideoKept u N (suc k) a (open_unit depth o c).chain
+video_opened : {u N k a : ℕ} (depth : ℕ) (o : Option AccessUnit) (c : VideoChain) → StampIn o → VideoKept u N k a c → VideoKept u N (suc k) a (open_unit depth o c).chain
 unfolding open_unit
 video_opened depth o c s m = with_units c m (units_opened (takes c m.holds.advances) depth o (waiting c) s (units_in c m))
 
@@ -105,7 +107,7 @@ push_units v r header = go (le r.bytes 0f)
     go false = refl
 
 -- what a run of j bytes adds to the open unit
-added : (header : Bool) (r : Run) (j : ℕ) {n k q p : ℕ} {o : OpenAu} → Is r.bytes j → n + j ≤ byte_limit → OpenIn n k q p o → OpenIn (n + j) k q p (grown (cond header 0f r.bytes) o)
+added : (header : Bool) (r : Run) (j : ℕ) {n k q p : ℕ} {o : Option AccessUnit} → Is r.bytes j → n + j ≤ byte_limit → OpenIn n k q p o → OpenIn (n + j) k q p (grown (cond header 0f r.bytes) o)
 added true r j i few o = open_grows 0f 0 j zero_is zero-le few o
 added false r j i few o = open_grows r.bytes j j i (le_refl j) few o
 

@@ -1,9 +1,9 @@
 -- A chain after k packets of its stream: its transport buffer and its branch are within their bounds, and so is the access unit
 -- whose bytes still arrive. What a packet's step and the end then give, and the figures of a report.
-use Rattle.std.specs.Prelude.{ℕ, suc, ◌+◌, ◌*◌, ◌<◌, ◌≤◌, ◌≡◌, false}
+use Rattle.std.specs.Prelude.{ℕ, suc, ◌+◌, ◌*◌, ◌<◌, ◌≤◌, ◌≡◌, false, Option, Some, None}
 use Rattle.fifo.specs.Bounds.{Bounded}
 use Rattle.branch.specs.declared.AccessUnit.{AccessUnit}
-use Rattle.branch.specs.MainBranch.{Main, OpenAu, none, unit}
+use Rattle.branch.specs.MainBranch.{Main}
 use Rattle.branch.specs.VideoStep.{VideoChain}
 use Rattle.bounds.specs.Events.{EventsIn, FewEvents}
 use Rattle.bounds.specs.Figures.{Seconds, MainFigures, VideoFigures, bytes_limit}
@@ -16,9 +16,9 @@ use Rattle.profile.specs.declared.config.TStdStream.{TStdStream}
 use Rattle.model.specs.Chain.{Branch, main, video, Chain, ChainStep}
 
 -- of n bytes in k units at most, q bytes in p units are closed: the open unit has no more than the rest
-pub data OpenIn (n k q p : ℕ) : OpenAu → Type 0 where
-  none_open : q ≤ n → p ≤ k → OpenIn n k q p none
-  one_open : {u : AccessUnit} (b : ℕ) → UnitIs u b → q + b ≤ n → p + 1 ≤ k → OpenIn n k q p (unit u)
+pub data OpenIn (n k q p : ℕ) : Option AccessUnit → Type 0 where
+  none_open : q ≤ n → p ≤ k → OpenIn n k q p None
+  one_open : {u : AccessUnit} (b : ℕ) → UnitIs u b → q + b ≤ n → p + 1 ≤ k → OpenIn n k q p (Some u)
 
 -- a main branch into which N bytes at most have come, in k units at most
 pub record MainHolds (N k : ℕ) (b : Main) : Type 0 where
