@@ -13,7 +13,10 @@ use Rattle.fifo.specs.declared.FluidFifo.{FluidFifo}
 use Rattle.branch.specs.declared.main_branch.MainBranch.{MainBranch}
 use Rattle.branch.specs.declared.video_branch.VideoBranch.{VideoBranch}
 use Rattle.scanner.specs.declared.PesScanner.{PesScanner}
-use Rattle.rows.specs.Rows.{Kept, tb_floats, main_floats, main_counts, video_floats, video_counts, scanner_bytes, tb_in, main_in, video_in, scanner_in, read_tb, read_main, read_video, read_scanner, stored_tb, stored_main_floats, stored_main_counts, stored_video_floats, stored_video_counts, stored_scanner, OnlyTb, OnlyMain, OnlyVideo, OnlyScanner}
+use Rattle.std.specs.Prelude.{Option, Some, None}
+use Rattle.std.specs.Option.{is_some}
+use Rattle.branch.specs.declared.AccessUnit.{AccessUnit}
+use Rattle.rows.specs.Rows.{Kept, held, tb_floats, main_floats, main_counts, video_floats, video_counts, scanner_bytes, tb_in, main_in, video_in, scanner_in, read_tb, read_main, read_video, read_scanner, stored_tb, stored_main_floats, stored_main_counts, stored_video_floats, stored_video_counts, stored_scanner, OnlyTb, OnlyMain, OnlyVideo, OnlyScanner}
 use Rattle.branch.specs.Stores.{store_from}
 use Rattle.branch.proofs.Stores.{stores_length, stores_other, stores_at}
 
@@ -45,6 +48,11 @@ flagged : (x : Bool) → eqb (cond x 1 0) 1 ≡ x
 flagged true = refl
 flagged false = refl
 
+held_here : (o : Option AccessUnit) → cond (eqb (cond (is_some o) 1 0) 1) (Some (record { decode_time = (held o).decode_time; bytes = (held o).bytes; first_input_time = (held o).first_input_time })) None ≡ o
+unfolding held
+held_here None = refl
+held_here (Some u) = refl
+
 module _ (i : ℕ) (h : i < 8) where
   pub tb_here : (t : FluidFifo) (l : List Float) → length l ≡ 256 → tb_in (stored_tb l i t) i ≡ t
   unfolding tb_in stored_tb
@@ -57,31 +65,14 @@ module _ (i : ℕ) (h : i < 8) where
   main_here b l m n n' =
       let at = stores_at nan l (32 * i) 5 (main_floats b) (omega arith) in
       let of = stores_at 0 m (16 * i) 0 (main_counts b) (omega arith) in
-      rw (lt-ltb i 8 h)
-      (rw (
-        of 0 (omega arith),
-        of 1 (omega arith),
-        of 2 (omega arith),
-        of 3 (omega arith),
-        of 4 (omega arith),
-        at 0 (omega arith),
-        at 1 (omega arith),
-        at 2 (omega arith),
-        at 3 (omega arith),
-        at 4 (omega arith),
-        at 5 (omega arith),
-        at 6 (omega arith),
-        at 7 (omega arith),
-      )
-      refl)
+      rw (lt-ltb i 8 h) (rw (of 0 (omega arith), of 1 (omega arith), of 2 (omega arith), of 3 (omega arith), of 4 (omega arith), of 5 (omega arith), at 0 (omega arith), at 1 (omega arith), at 2 (omega arith), at 3 (omega arith), at 4 (omega arith), at 5 (omega arith), at 6 (omega arith), at 7 (omega arith)) (rw (held_here b.units.open_au) refl))
 
   pub video_here : (b : VideoBranch) (l : List Float) (m : List ℕ) → length l ≡ 256 → length m ≡ 128 → video_in (stored_video_floats l i b) (stored_video_counts m i b) i ≡ b
   unfolding video_in stored_video_floats stored_video_counts
   video_here b l m n n' =
       let at = stores_at nan l (32 * i) 13 (video_floats b) (omega arith) in
-      let of = stores_at 0 m (16 * i) 5 (video_counts b) (omega arith) in
-      rw (lt-ltb i 8 h)
-      (rw (of 0 (omega arith), of 1 (omega arith), of 2 (omega arith), of 3 (omega arith), of 4 (omega arith), of 5 (omega arith), of 6 (omega arith), at 0 (omega arith), at 1 (omega arith), at 2 (omega arith), at 3 (omega arith), at 4 (omega arith), at 5 (omega arith), at 6 (omega arith), at 7 (omega arith), at 8 (omega arith), at 9 (omega arith), at 10 (omega arith), at 11 (omega arith), at 12 (omega arith), at 13 (omega arith), at 14 (omega arith)) refl)
+      let of = stores_at 0 m (16 * i) 6 (video_counts b) (omega arith) in
+      rw (lt-ltb i 8 h) (rw (of 0 (omega arith), of 1 (omega arith), of 2 (omega arith), of 3 (omega arith), of 4 (omega arith), of 5 (omega arith), of 6 (omega arith), of 7 (omega arith), at 0 (omega arith), at 1 (omega arith), at 2 (omega arith), at 3 (omega arith), at 4 (omega arith), at 5 (omega arith), at 6 (omega arith), at 7 (omega arith), at 8 (omega arith), at 9 (omega arith), at 10 (omega arith), at 11 (omega arith), at 12 (omega arith), at 13 (omega arith), at 14 (omega arith)) (rw (held_here b.units.open_au) refl))
 
   pub scanner_here : (s : PesScanner) (l : List ℕ) → length l ≡ 128 → scanner_in (stored_scanner l i s) i ≡ s
   unfolding scanner_in stored_scanner
@@ -118,7 +109,7 @@ module _ (i : ℕ) where
   video_only b l n =
       record {
         floats = kept_by (ltb i 8) (stores_kept nan l (32 * i) 13 (video_floats b) _ _ (omega arith) (omega arith));
-        counts = kept_by (ltb i 8) (stores_kept 0 n (16 * i) 5 (video_counts b) _ _ (omega arith) (omega arith));
+        counts = kept_by (ltb i 8) (stores_kept 0 n (16 * i) 6 (video_counts b) _ _ (omega arith) (omega arith));
       }
 
   pub scanner_only : (s : PesScanner) (l : List ℕ) → OnlyScanner i l (stored_scanner l i s)

@@ -9,7 +9,8 @@ use lib.ListN.{get_or}
 use lib.Dec.{ltb}
 use lib.Ieee.{Float, nan}
 use borrow.Author.Tests.{ltb-true, ltb-false}
-use Rattle.rows.specs.Rows.{Rows, rows_of, Sized, Kept, tb_in, main_in, video_in, scanner_in, OnlyTb, OnlyMain, OnlyVideo, OnlyScanner, OnlyChain}
+use Rattle.rows.specs.declared.Rows.{Rows}
+use Rattle.rows.specs.Rows.{rows_of, Sized, Kept, tb_in, main_in, video_in, scanner_in, OnlyTb, OnlyMain, OnlyVideo, OnlyScanner, OnlyChain}
 
 kept_refl : {A : Type 0} {d : A} {lo hi : ℕ} {l : List A} → Kept d lo hi l l
 kept_refl = record { size = refl; same = λ i h. refl }
@@ -31,19 +32,19 @@ module _ (i : ℕ) where
       let at = part (32 * i) 0 5 k h in
       rw (at 0 (omega arith) (omega arith), at 1 (omega arith) (omega arith), at 2 (omega arith) (omega arith), at 3 (omega arith) (omega arith), at 4 (omega arith) (omega arith))
 
-  main_kept : {lo hi lo' hi' : ℕ} {l v : List Float} {n o : List ℕ} → Kept nan lo hi l v → (32 * i + 13 ≤ lo) ⊎ (hi ≤ 32 * i + 5) → Kept 0 lo' hi' n o → (16 * i + 5 ≤ lo') ⊎ (hi' ≤ 16 * i + 0) → main_in v o i ≡ main_in l n i
+  main_kept : {lo hi lo' hi' : ℕ} {l v : List Float} {n o : List ℕ} → Kept nan lo hi l v → (32 * i + 13 ≤ lo) ⊎ (hi ≤ 32 * i + 5) → Kept 0 lo' hi' n o → (16 * i + 6 ≤ lo') ⊎ (hi' ≤ 16 * i + 0) → main_in v o i ≡ main_in l n i
   unfolding main_in
   main_kept k h k' h' =
       let at = part (32 * i) 5 13 k h in
-      let of = part (16 * i) 0 5 k' h' in
-      rw (of 0 (omega arith) (omega arith), of 1 (omega arith) (omega arith), of 2 (omega arith) (omega arith), of 3 (omega arith) (omega arith), of 4 (omega arith) (omega arith), at 5 (omega arith) (omega arith), at 6 (omega arith) (omega arith), at 7 (omega arith) (omega arith), at 8 (omega arith) (omega arith), at 9 (omega arith) (omega arith), at 10 (omega arith) (omega arith), at 11 (omega arith) (omega arith), at 12 (omega arith) (omega arith))
+      let of = part (16 * i) 0 6 k' h' in
+      rw (of 0 (omega arith) (omega arith), of 1 (omega arith) (omega arith), of 2 (omega arith) (omega arith), of 3 (omega arith) (omega arith), of 4 (omega arith) (omega arith), of 5 (omega arith) (omega arith), at 5 (omega arith) (omega arith), at 6 (omega arith) (omega arith), at 7 (omega arith) (omega arith), at 8 (omega arith) (omega arith), at 9 (omega arith) (omega arith), at 10 (omega arith) (omega arith), at 11 (omega arith) (omega arith), at 12 (omega arith) (omega arith))
 
-  video_kept : {lo hi lo' hi' : ℕ} {l v : List Float} {n o : List ℕ} → Kept nan lo hi l v → (32 * i + 28 ≤ lo) ⊎ (hi ≤ 32 * i + 13) → Kept 0 lo' hi' n o → (16 * i + 12 ≤ lo') ⊎ (hi' ≤ 16 * i + 5) → video_in v o i ≡ video_in l n i
+  video_kept : {lo hi lo' hi' : ℕ} {l v : List Float} {n o : List ℕ} → Kept nan lo hi l v → (32 * i + 28 ≤ lo) ⊎ (hi ≤ 32 * i + 13) → Kept 0 lo' hi' n o → (16 * i + 14 ≤ lo') ⊎ (hi' ≤ 16 * i + 6) → video_in v o i ≡ video_in l n i
   unfolding video_in
   video_kept k h k' h' =
       let at = part (32 * i) 13 28 k h in
-      let of = part (16 * i) 5 12 k' h' in
-      rw (of 5 (omega arith) (omega arith), of 6 (omega arith) (omega arith), of 7 (omega arith) (omega arith), of 8 (omega arith) (omega arith), of 9 (omega arith) (omega arith), of 10 (omega arith) (omega arith), of 11 (omega arith) (omega arith), at 13 (omega arith) (omega arith), at 14 (omega arith) (omega arith), at 15 (omega arith) (omega arith), at 16 (omega arith) (omega arith), at 17 (omega arith) (omega arith), at 18 (omega arith) (omega arith), at 19 (omega arith) (omega arith), at 20 (omega arith) (omega arith), at 21 (omega arith) (omega arith), at 22 (omega arith) (omega arith), at 23 (omega arith) (omega arith), at 24 (omega arith) (omega arith), at 25 (omega arith) (omega arith), at 26 (omega arith) (omega arith), at 27 (omega arith) (omega arith))
+      let of = part (16 * i) 6 14 k' h' in
+      rw (of 6 (omega arith) (omega arith), of 7 (omega arith) (omega arith), of 8 (omega arith) (omega arith), of 9 (omega arith) (omega arith), of 10 (omega arith) (omega arith), of 11 (omega arith) (omega arith), of 12 (omega arith) (omega arith), of 13 (omega arith) (omega arith), at 13 (omega arith) (omega arith), at 14 (omega arith) (omega arith), at 15 (omega arith) (omega arith), at 16 (omega arith) (omega arith), at 17 (omega arith) (omega arith), at 18 (omega arith) (omega arith), at 19 (omega arith) (omega arith), at 20 (omega arith) (omega arith), at 21 (omega arith) (omega arith), at 22 (omega arith) (omega arith), at 23 (omega arith) (omega arith), at 24 (omega arith) (omega arith), at 25 (omega arith) (omega arith), at 26 (omega arith) (omega arith), at 27 (omega arith) (omega arith))
 
   scanner_kept : {lo hi : ℕ} {l v : List ℕ} → Kept 0 lo hi l v → (16 * i + 16 ≤ lo) ⊎ (hi ≤ 16 * i + 0) → scanner_in v i ≡ scanner_in l i
   unfolding scanner_in
@@ -54,10 +55,10 @@ module _ (i : ℕ) where
   -- ---- a change of one part leaves the chain's others
 
   pub tb_leaves_main : {l v : List Float} (n : List ℕ) → OnlyTb i l v → main_in v n i ≡ main_in l n i
-  tb_leaves_main n k = main_kept k (inr (omega arith)) (kept_refl {lo = 16 * i + 5} {hi = 16 * i + 5}) (inl (omega arith))
+  tb_leaves_main n k = main_kept k (inr (omega arith)) (kept_refl {lo = 16 * i + 6} {hi = 16 * i + 6}) (inl (omega arith))
 
   pub tb_leaves_video : {l v : List Float} (n : List ℕ) → OnlyTb i l v → video_in v n i ≡ video_in l n i
-  tb_leaves_video n k = video_kept k (inr (omega arith)) (kept_refl {lo = 16 * i + 12} {hi = 16 * i + 12}) (inl (omega arith))
+  tb_leaves_video n k = video_kept k (inr (omega arith)) (kept_refl {lo = 16 * i + 14} {hi = 16 * i + 14}) (inl (omega arith))
 
   module _ {l v : List Float} {n o : List ℕ} where
     pub main_leaves_tb : OnlyMain i l v n o → tb_in v i ≡ tb_in l i

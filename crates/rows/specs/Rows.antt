@@ -1,8 +1,14 @@
 -- The rows of eight chains as lists: which field of a chain stands at which place, what is read of a chain and what a store leaves.
-use Rattle.std.specs.Prelude.{ℕ, ◌+◌, ◌*◌, ◌/◌, ◌%◌, ◌≤◌, ◌<◌, ◌≡◌, cond, List, [], ◌∷◌, ◌++◌, ◌⊎◌, length, get_or, eqb, ltb, Float}
+use Rattle.std.specs.Prelude.{ℕ, ◌+◌, ◌*◌, ◌/◌, ◌%◌, ◌≤◌, ◌<◌, ◌≡◌, cond, List, [], ◌∷◌, ◌++◌, ◌⊎◌, length, get_or, eqb, ltb, Option, Some, None, Float}
 use Rattle.std.specs.Float.{nan}
+use Rattle.std.specs.Option.{is_some}
+use Rattle.ieee.specs.Binary64.{0f}
+use Rattle.rows.specs.declared.Rows.{Rows}
 use Rattle.fifo.specs.declared.FluidFifo.{FluidFifo}
 use Rattle.fifo.specs.FluidFifo.{new}
+use Rattle.branch.specs.declared.AccessUnit.{AccessUnit}
+use Rattle.branch.specs.declared.queue.Ring.{Ring}
+use Rattle.branch.specs.declared.units.Units.{Units}
 use Rattle.branch.specs.declared.main_branch.MainBranch.{MainBranch}
 use Rattle.branch.specs.declared.leak.Leak.{Leak}
 use Rattle.branch.specs.declared.video_branch.VideoBranch.{VideoBranch}
@@ -11,11 +17,6 @@ use Rattle.branch.specs.MainInWork as main-work
 use Rattle.branch.specs.VideoInWork as video-work
 use Rattle.scanner.specs.declared.PesScanner.{PesScanner}
 use Rattle.scanner.specs.State.{idle}
-
-pub record Rows : Type 0 where
-  pub floats : List Float
-  pub counts : List ℕ
-  pub bytes : List ℕ
 
 abbrev pub rows_of : List Float → List ℕ → List ℕ → Rows
 rows_of l n b = record { floats = l; counts = n; bytes = b }
@@ -31,20 +32,26 @@ pub record Sized (r : Rows) : Type 0 where
 abbrev pub tb_floats : FluidFifo → List Float
 tb_floats t = t.rate ∷ t.virtual_done ∷ t.busy_since ∷ t.peak ∷ t.longest_busy ∷ []
 
+abbrev pub ring_counts : Ring → List ℕ
+ring_counts q = q.head ∷ q.count ∷ []
+
+-- the floats of an open unit are 0 where none is open
+unfoldable pub held : Option AccessUnit → AccessUnit
+held None = record { decode_time = 0f; bytes = 0f; first_input_time = 0f }
+held (Some u) = u
+
+abbrev pub units_floats : Units → List Float
+units_floats u = (held u.open_au).decode_time ∷ (held u.open_au).bytes ∷ (held u.open_au).first_input_time ∷ u.max_delay_seconds ∷ []
+
+-- the last count is 1 where a unit is open
+abbrev pub units_counts : Units → List ℕ
+units_counts u = ring_counts u.pending ++ u.access_units ∷ cond (is_some u.open_au) 1 0 ∷ []
+
 abbrev pub main_floats : MainBranch → List Float
-main_floats b =
-    b.inflow.settled
-    ∷ b.units.open_au.decode_time
-    ∷ b.units.open_au.bytes
-    ∷ b.units.open_au.first_input_time
-    ∷ b.removed
-    ∷ b.required
-    ∷ b.peak
-    ∷ b.units.max_delay_seconds
-    ∷ []
+main_floats b = b.inflow.settled ∷ b.removed ∷ b.required ∷ b.peak ∷ units_floats b.units
 
 abbrev pub main_counts : MainBranch → List ℕ
-main_counts b = b.inflow.runs.head ∷ b.inflow.runs.count ∷ b.units.pending.head ∷ b.units.pending.count ∷ b.units.access_units ∷ []
+main_counts b = ring_counts b.inflow.runs ++ units_counts b.units
 
 -- MBn and what it leaked
 abbrev pub leak_floats : Leak → List Float
@@ -61,21 +68,13 @@ leak_floats k =
     ∷ []
 
 abbrev pub leak_counts : Leak → List ℕ
-leak_counts k = k.mb_in.runs.head ∷ k.mb_in.runs.count ∷ k.flow.marks.head ∷ k.flow.marks.count ∷ []
+leak_counts k = ring_counts k.mb_in.runs ++ ring_counts k.flow.marks
 
 abbrev pub video_floats : VideoBranch → List Float
-video_floats b =
-    leak_floats b.leak
-    ++ b.units.open_au.decode_time
-    ∷ b.units.open_au.bytes
-    ∷ b.units.open_au.first_input_time
-    ∷ b.queued
-    ∷ b.eb_required
-    ∷ b.units.max_delay_seconds
-    ∷ []
+video_floats b = leak_floats b.leak ++ b.queued ∷ b.eb_required ∷ units_floats b.units
 
 abbrev pub video_counts : VideoBranch → List ℕ
-video_counts b = leak_counts b.leak ++ b.units.pending.head ∷ b.units.pending.count ∷ b.units.access_units ∷ []
+video_counts b = leak_counts b.leak ++ units_counts b.units
 
 -- the count stands in two bytes, the lower first
 abbrev pub scanner_bytes : PesScanner → List ℕ
@@ -110,27 +109,39 @@ tb_at l b =
       longest_busy = get_or l (b + 4) nan;
     }
 
+-- the ring from the place k on
+abbrev pub ring_at : List ℕ → ℕ → ℕ → Ring
+ring_at n c k = record { head = get_or n (c + k) 0; count = get_or n (c + (k + 1)) 0 }
+
+-- the units from the places f and k on
+abbrev pub units_at : List Float → List ℕ → ℕ → ℕ → ℕ → ℕ → Units
+units_at l n b f c k =
+    record {
+      pending = ring_at n c k;
+      open_au =
+          cond (eqb (get_or n (c + (k + 3)) 0) 1)
+          (Some (record { decode_time = get_or l (b + f) nan; bytes = get_or l (b + (f + 1)) nan; first_input_time = get_or l (b + (f + 2)) nan }))
+          None;
+      access_units = get_or n (c + (k + 2)) 0;
+      max_delay_seconds = get_or l (b + (f + 3)) nan;
+    }
+
 abbrev pub main_at : List Float → List ℕ → ℕ → ℕ → MainBranch
 main_at l n b c =
     record {
-      inflow = record { runs = record { head = get_or n (c + 0) 0; count = get_or n (c + 1) 0 }; settled = get_or l (b + 5) nan };
-      units = record {
-        pending = record { head = get_or n (c + 2) 0; count = get_or n (c + 3) 0 };
-        open_au = record { decode_time = get_or l (b + 6) nan; bytes = get_or l (b + 7) nan; first_input_time = get_or l (b + 8) nan };
-        access_units = get_or n (c + 4) 0;
-        max_delay_seconds = get_or l (b + 12) nan;
-      };
-      removed = get_or l (b + 9) nan;
-      required = get_or l (b + 10) nan;
-      peak = get_or l (b + 11) nan;
+      inflow = record { runs = ring_at n c 0; settled = get_or l (b + 5) nan };
+      units = units_at l n b 9 c 2;
+      removed = get_or l (b + 6) nan;
+      required = get_or l (b + 7) nan;
+      peak = get_or l (b + 8) nan;
     }
 
 abbrev pub video_leak_at : List Float → List ℕ → ℕ → ℕ → Leak
 video_leak_at l n b c =
     record {
-      mb_in = record { runs = record { head = get_or n (c + 5) 0; count = get_or n (c + 6) 0 }; settled = get_or l (b + 13) nan };
+      mb_in = record { runs = ring_at n c 6; settled = get_or l (b + 13) nan };
       flow = record {
-        marks = record { head = get_or n (c + 7) 0; count = get_or n (c + 8) 0 };
+        marks = ring_at n c 8;
         transferred = get_or l (b + 14) nan;
         eb_in = get_or l (b + 15) nan;
         eb_removed = get_or l (b + 16) nan;
@@ -146,14 +157,9 @@ abbrev pub video_at : List Float → List ℕ → ℕ → ℕ → VideoBranch
 video_at l n b c =
     record {
       leak = video_leak_at l n b c;
-      units = record {
-        pending = record { head = get_or n (c + 9) 0; count = get_or n (c + 10) 0 };
-        open_au = record { decode_time = get_or l (b + 22) nan; bytes = get_or l (b + 23) nan; first_input_time = get_or l (b + 24) nan };
-        access_units = get_or n (c + 11) 0;
-        max_delay_seconds = get_or l (b + 27) nan;
-      };
-      queued = get_or l (b + 25) nan;
-      eb_required = get_or l (b + 26) nan;
+      units = units_at l n b 24 c 10;
+      queued = get_or l (b + 22) nan;
+      eb_required = get_or l (b + 23) nan;
     }
 
 abbrev pub scanner_at : List ℕ → ℕ → PesScanner
@@ -213,7 +219,7 @@ unfoldable pub stored_video_floats : List Float → ℕ → VideoBranch → List
 stored_video_floats l i b = cond (ltb i 8) (store_from l (32 * i) 13 (video_floats b)) l
 
 unfoldable pub stored_video_counts : List ℕ → ℕ → VideoBranch → List ℕ
-stored_video_counts n i b = cond (ltb i 8) (store_from n (16 * i) 5 (video_counts b)) n
+stored_video_counts n i b = cond (ltb i 8) (store_from n (16 * i) 6 (video_counts b)) n
 
 unfoldable pub stored_scanner : List ℕ → ℕ → PesScanner → List ℕ
 stored_scanner l i s = cond (ltb i 8) (store_from l (16 * i) 0 (scanner_bytes s)) l
@@ -232,12 +238,12 @@ OnlyTb i l v = Kept nan (32 * i) (32 * i + 5) l v
 -- nothing but its main branch
 pub record OnlyMain (i : ℕ) (l v : List Float) (n o : List ℕ) : Type 0 where
   pub floats : Kept nan (32 * i + 5) (32 * i + 13) l v
-  pub counts : Kept 0 (16 * i) (16 * i + 5) n o
+  pub counts : Kept 0 (16 * i) (16 * i + 6) n o
 
 -- nothing but its video branch
 pub record OnlyVideo (i : ℕ) (l v : List Float) (n o : List ℕ) : Type 0 where
   pub floats : Kept nan (32 * i + 13) (32 * i + 28) l v
-  pub counts : Kept 0 (16 * i + 5) (16 * i + 12) n o
+  pub counts : Kept 0 (16 * i + 6) (16 * i + 14) n o
 
 -- nothing but its scanner
 abbrev pub OnlyScanner : ℕ → List ℕ → List ℕ → Type 0
