@@ -4,6 +4,7 @@ use Prim.Native.Nat.{ℕ, ◌+◌, ◌*◌, ◌^◌, ◌<◌, ◌≤◌}
 use mathlib.Core.Path.{◌≡◌, refl, sym, ap, subst, ◌∙◌}
 use mathlib.Core.Bool.{Bool, true, false, cond}
 use mathlib.Core.List.{List}
+use mathlib.Core.Logic.{◌⊎◌, inl, inr}
 use native.Mathlib.Omega.{arith}
 use lib.ListN.{length, take, drop}
 use borrow.Author.Tests.{ltb-false}
@@ -98,26 +99,22 @@ pub record Parsed (h : TsPacket) : Type 0 where
   pub continuity_small : h.continuity_counter < 16
   pub start_low : 4 ≤ h.payload_start
   pub start_high : h.payload_start ≤ 188
-  pub pcr_small : (f : AdaptationField) (c : ClockReference) → h.adaptation_field ≡ Some f
-      → f.pcr ≡ Some c → Small c
-  pub opcr_small : (f : AdaptationField) (c : ClockReference) → h.adaptation_field ≡ Some f
-      → f.opcr ≡ Some c → Small c
+  pub clock_small : (f : AdaptationField) (c : ClockReference) → h.adaptation_field ≡ Some f
+      → (f.pcr ≡ Some c) ⊎ (f.opcr ≡ Some c) → Small c
 
 -- the bounds of a packet whose adaptation field's clock references are small
 of_packet : (w : List ℕ) (m : Option AdaptationField) (from : ℕ) → 4 ≤ from → from ≤ 188
-    → ((f : AdaptationField) (c : ClockReference) → m ≡ Some f → f.pcr ≡ Some c → Small c)
-    → ((f : AdaptationField) (c : ClockReference) → m ≡ Some f → f.opcr ≡ Some c → Small c)
+    → ((f : AdaptationField) (c : ClockReference) → m ≡ Some f → (f.pcr ≡ Some c) ⊎ (f.opcr ≡ Some c) → Small c)
     → Parsed (packet_of w m from)
 unfolding packet_of
-of_packet w m from low high p o =
+of_packet w m from low high s =
     record {
       pid_small = rw (places w).pid (bound w 11 13);
       scrambling_small = rw (places w).transport_scrambling_control (bound w 24 2);
       continuity_small = rw (places w).continuity_counter (bound w 28 4);
       start_low = from_low (has_payload (field table_2_2 w "adaptation_field_control"));
       start_high = from_high (has_payload (field table_2_2 w "adaptation_field_control"));
-      pcr_small = p;
-      opcr_small = o;
+      clock_small = s;
     }
   where
     from_low : (t : Bool) → 4 ≤ cond t from 188
@@ -138,27 +135,24 @@ module _ (raw : List ℕ) (f : AdaptationField) (c : ClockReference)
       → get (adaptation_field_of raw) ≡ cond on (Some r) None → Small r → get f ≡ Some c → Small c
   there get on r e s b = subst Small (cond_some on r c (sym e ∙ ap get values ∙ b)).1 s
 
-  pcr_there : f.pcr ≡ Some c → Small c
+  clock_there : (f.pcr ≡ Some c) ⊎ (f.opcr ≡ Some c) → Small c
   unfolding adaptation_field_of
-  pcr_there =
+  clock_there (inl e) =
       there (λ (g : AdaptationField). g.pcr) (is_set raw "PCR_flag") (pcr_of raw) refl
-      (small_clock raw _ _ _ (laws.program_clock_reference_base raw) (laws.program_clock_reference_extension raw))
-
-  opcr_there : f.opcr ≡ Some c → Small c
-  unfolding adaptation_field_of
-  opcr_there =
+      (small_clock raw _ _ _ (laws.program_clock_reference_base raw) (laws.program_clock_reference_extension raw)) e
+  clock_there (inr e) =
       there (λ (g : AdaptationField). g.opcr) (is_set raw "OPCR_flag") (opcr_of raw) refl
-      (small_clock raw _ _ _ (laws.original_program_clock_reference_base raw) (laws.original_program_clock_reference_extension raw))
+      (small_clock raw _ _ _ (laws.original_program_clock_reference_base raw) (laws.original_program_clock_reference_extension raw)) e
 
 pub parsed : (w : List ℕ) (h : TsPacket) → parse_of w ≡ Ok h → Parsed h
 parsed w h is = go (shape w h is)
   where
     go : Shape w h → Parsed h
-    go (bare_packet e) = rw e (of_packet w None 4 (omega arith) (omega arith) (λ f c a b. absurd (none-some f a)) (λ f c a b. absurd (none-some f a)))
+    go (bare_packet e) = rw e (of_packet w None 4 (omega arith) (omega arith) (λ f c a b. absurd (none-some f a)))
     go (field_packet fits e) =
         let raw = take (field_length w) (drop 4 w) in
         rw e
-        (of_packet w (Some (adaptation_field_of raw)) (4 + field_length w) (omega arith) fits (pcr_there raw) (opcr_there raw))
+        (of_packet w (Some (adaptation_field_of raw)) (4 + field_length w) (omega arith) fits (clock_there raw))
 
 -- ticks of a clock reference: an extension of 300 to 511 can pass a multiple of 300
 pub ticks_small : (c : ClockReference) → Small c → pcr_ticks c < 2 ^ 33 * 300 + 212

@@ -11,8 +11,9 @@ use Rattle.packet.specs.declared.PrivateData.{PrivateData}
 use Rattle.packet.specs.declared.Ltw.{Ltw}
 use Rattle.packet.specs.declared.SeamlessSplice.{SeamlessSplice}
 
--- f is the byte of flags of a field that has one
+-- f is the byte of flags of a field that has one; raw holds bytes, which a slice in a struct does not say by its type
 pub record Flagged (raw : List ℕ) (f : ℕ) : Type 0 where
+  pub bytes : (i : ℕ) → get_or raw i 0 < 256
   pub some : 0 < get_or raw 0 0
   pub flags : f ≡ get_or raw 1 0
 

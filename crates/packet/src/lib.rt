@@ -66,7 +66,7 @@ pub struct TsPacket {
     pub transport_scrambling_control: u8,
     pub continuity_counter: u8,
     pub adaptation_field: Option<AdaptationField>,
-    // Where the payload begins. Where there is none, 188, at which it would end: `payload` then gives no bytes, and no reader has to ask.
+    // Where the payload begins; 188 where there is none. A payload ends at 188, so that its length is 188 - payload_start in each packet.
     pub payload_start: usize,
 }
 
@@ -95,14 +95,20 @@ impl From<Truncated> for TsError {
     }
 }
 
-// Where the optional fields stand in an adaptation field, or would. Three functions take the slice and its byte of flags, two of them
-// these places as well: no struct holds them together, since each function reads every one by itself.
+// Where the optional fields stand in an adaptation field, or would.
 #[derive(Clone, Copy)]
 struct Places {
     opcr: usize,
     splice_countdown: usize,
     private_length: usize,
     extension: usize,
+}
+
+// An adaptation field that has flags: the whole of it, its length byte first, and its byte of flags.
+#[derive(Clone, Copy)]
+struct Field<'a> {
+    raw: &'a [u8],
+    flags: u8,
 }
 
 // A byte behind the end reads as 0. Slice and place are two parameters, here and below, since a field's place is a sum of others: a struct of
@@ -215,26 +221,9 @@ fn splice_at(raw: &[u8], at: usize) -> SeamlessSplice
     }
 }
 
-// Where the fields behind the flags f stand: each begins where the one before it ends.
-fn places_of(raw: &[u8], f: u8) -> Places
-    requires { Flagged raw.now f }
-    ensures { Placed raw.now result }
-{
-    let opcr = past(f / 16 % 2 == 1, 2, 6);
-    let splice_countdown = past(f / 8 % 2 == 1, opcr, 6);
-    let private_length = past(f / 4 % 2 == 1, splice_countdown, 1);
-    let n = usize::from(byte_or_zero(raw, private_length));
-    let extension = past(f / 2 % 2 == 1, private_length, 1 + n);
-    Places {
-        opcr,
-        splice_countdown,
-        private_length,
-        extension,
-    }
-}
-
 // Whether the extension whose length byte stands at `at` ends within the field, and the parts that it flags within it.
 // Left as a call it costs a packet with an extension 19 instructions more in `header::read`.
+// Where its parts begin is two sums, which `extension_at` forms again: a struct of both places would be longer than they are.
 #[inline(always)]
 fn extension_room(raw: &[u8], at: usize) -> Result<(), Truncated>
     requires { Extended raw.now at }
@@ -253,25 +242,6 @@ fn extension_room(raw: &[u8], at: usize) -> Result<(), Truncated>
     ends_within(f / 64 % 2 == 1, end, rate, 3)?;
     let splice = past(f / 64 % 2 == 1, rate, 3);
     ends_within(f / 32 % 2 == 1, end, splice, 5)
-}
-
-// Whether every field behind the flags f ends within the adaptation field.
-fn field_room(raw: &[u8], f: u8, p: Places) -> Result<(), Truncated>
-    requires flagged { Flagged raw.now f }
-    requires placed { Placed raw.now p }
-    ensures { result ≡ room_of raw.now }
-{
-    ends_within(f / 16 % 2 == 1, raw.len(), 2, 6)?;
-    ends_within(f / 8 % 2 == 1, raw.len(), p.opcr, 6)?;
-    ends_within(f / 4 % 2 == 1, raw.len(), p.splice_countdown, 1)?;
-    let has_private_data = f / 2 % 2 == 1;
-    ends_within(has_private_data, raw.len(), p.private_length, 1)?;
-    let n = usize::from(byte_or_zero(raw, p.private_length));
-    ends_within(has_private_data, raw.len(), p.private_length + 1, n)?;
-    if f % 2 == 1 {
-        return extension_room(raw, p.extension);
-    }
-    Ok(())
 }
 
 // The extension whose length byte stands at `at`; one of length 0 has no flags.
@@ -296,28 +266,73 @@ fn extension_at(raw: &[u8], at: usize) -> AdaptationFieldExtension
     }
 }
 
-// The adaptation field with the flags f.
-fn flagged_field(raw: &[u8], f: u8, p: Places) -> AdaptationField
-    requires flagged { Flagged raw.now f }
-    requires placed { Placed raw.now p }
-    ensures { result ≡ adaptation_field_of raw.now }
-{
-    // Not by `then`: its closure would have to repeat what `extension_at` requires.
-    let adaptation_field_extension = if f % 2 == 1 {
-        Some(extension_at(raw, p.extension))
-    } else {
-        None
-    };
-    AdaptationField {
-        length: byte_or_zero(raw, 0),
-        discontinuity_indicator: f / 128 % 2 == 1,
-        random_access_indicator: f / 64 % 2 == 1,
-        elementary_stream_priority_indicator: f / 32 % 2 == 1,
-        pcr: (f / 16 % 2 == 1).then(|| clock_at(raw, 2)),
-        opcr: (f / 8 % 2 == 1).then(|| clock_at(raw, p.opcr)),
-        splice_countdown: (f / 4 % 2 == 1).then(|| countdown_at(raw, p.splice_countdown)),
-        transport_private_data: (f / 2 % 2 == 1).then(|| private_data_at(raw, p.private_length)),
-        adaptation_field_extension,
+impl Field<'_> {
+    // Where the optional fields stand: each begins where the one before it ends.
+    fn places(self) -> Places
+        requires { Flagged self.raw.now self.flags }
+        ensures { Placed self.entry.raw.now result }
+    {
+        let f = self.flags;
+        let opcr = past(f / 16 % 2 == 1, 2, 6);
+        let splice_countdown = past(f / 8 % 2 == 1, opcr, 6);
+        let private_length = past(f / 4 % 2 == 1, splice_countdown, 1);
+        let n = usize::from(byte_or_zero(self.raw, private_length));
+        let extension = past(f / 2 % 2 == 1, private_length, 1 + n);
+        Places {
+            opcr,
+            splice_countdown,
+            private_length,
+            extension,
+        }
+    }
+
+    // Whether every optional field ends within the adaptation field.
+    fn room(self, p: Places) -> Result<(), Truncated>
+        requires flagged { Flagged self.raw.now self.flags }
+        requires placed { Placed self.raw.now p }
+        ensures { result ≡ room_of self.entry.raw.now }
+    {
+        let Field { raw, flags: f } = self;
+        ends_within(f / 16 % 2 == 1, raw.len(), 2, 6)?;
+        ends_within(f / 8 % 2 == 1, raw.len(), p.opcr, 6)?;
+        ends_within(f / 4 % 2 == 1, raw.len(), p.splice_countdown, 1)?;
+        let has_private_data = f / 2 % 2 == 1;
+        ends_within(has_private_data, raw.len(), p.private_length, 1)?;
+        let n = usize::from(byte_or_zero(raw, p.private_length));
+        ends_within(has_private_data, raw.len(), p.private_length + 1, n)?;
+        if f % 2 == 1 {
+            return extension_room(raw, p.extension);
+        }
+        Ok(())
+    }
+
+    // The adaptation field's values.
+    fn values(self, p: Places) -> AdaptationField
+        requires flagged { Flagged self.raw.now self.flags }
+        requires placed { Placed self.raw.now p }
+        ensures { result ≡ adaptation_field_of self.entry.raw.now }
+    {
+        let Field { raw, flags: f } = self;
+        // Not by `then`: its closure would have to repeat what `extension_at` requires.
+        let adaptation_field_extension = if f % 2 == 1 {
+            Some(extension_at(raw, p.extension))
+        } else {
+            None
+        };
+        AdaptationField {
+            length: byte_or_zero(raw, 0),
+            discontinuity_indicator: f / 128 % 2 == 1,
+            random_access_indicator: f / 64 % 2 == 1,
+            elementary_stream_priority_indicator: f / 32 % 2 == 1,
+            pcr: (f / 16 % 2 == 1).then(|| clock_at(raw, 2)),
+            opcr: (f / 8 % 2 == 1).then(|| clock_at(raw, p.opcr)),
+            splice_countdown: (f / 4 % 2 == 1).then(|| countdown_at(raw, p.splice_countdown)),
+            transport_private_data: (f / 2 % 2 == 1).then(|| private_data_at(
+                raw,
+                p.private_length,
+            )),
+            adaptation_field_extension,
+        }
     }
 }
 
@@ -337,12 +352,12 @@ pub fn adaptation_field_room(raw: &[u8]) -> Result<(), Truncated>
             need: 2,
         });
     }
-    let f = raw[1];
-    if (f % 16 == 0) & (8 <= raw.len()) {
+    let flags = raw[1];
+    if flags % 16 == 0 && 8 <= raw.len() {
         return Ok(());
     }
-    let p = places_of(raw, f);
-    field_room(raw, f, p)
+    let field = Field { raw, flags };
+    field.room(field.places())
 }
 
 // The values of an adaptation field; one of length 0 has no flags.
@@ -353,9 +368,11 @@ fn adaptation_field_of(raw: &[u8]) -> AdaptationField
     if byte_or_zero(raw, 0) == 0 {
         return AdaptationField::default();
     }
-    let f = byte_or_zero(raw, 1);
-    let p = places_of(raw, f);
-    flagged_field(raw, f, p)
+    let field = Field {
+        raw,
+        flags: byte_or_zero(raw, 1),
+    };
+    field.values(field.places())
 }
 
 // The adaptation field that is the whole of `raw`, its length byte first.
@@ -438,15 +455,8 @@ impl TsPacket {
 fn part(bytes: &[u8], from: usize, n: usize) -> &[u8]
     ensures { result.now ≡ take n (drop from bytes.now) }
 {
-    let len = bytes.len();
-    if len <= from {
-        return &bytes[len..len];
-    }
-    if len - from <= n {
-        return &bytes[from..len];
-    }
-    let end = from + n;
-    &bytes[from..end]
+    let rest = &bytes[from.min(bytes.len())..];
+    &rest[..n.min(rest.len())]
 }
 
 // The payload of a packet, from `payload_start` on; none from 188 on.
@@ -466,14 +476,6 @@ impl PrivateData {
     {
         part(packet, self.start.saturating_add(4), self.len)
     }
-}
-
-// The private data of a packet, by the start and the length that its adaptation field has.
-// Ruled out: the byte of the length; bytes behind them.
-pub fn private_data(bytes: &[u8], start: usize, len: usize) -> &[u8]
-    ensures { result.now ≡ private_data_of bytes.now start len }
-{
-    PrivateData { start, len }.bytes_in(bytes)
 }
 
 #[derive(Clone, Copy)]
@@ -542,14 +544,10 @@ pub fn window_at(bytes: &[u8], from: usize) -> &[u8]
     ensures { result.now ≡ cond (leb (from + 188) (length bytes.now)) (take 188 (drop from bytes.now)) [] }
 {
     let len = bytes.len();
-    if len < 188 {
-        return &bytes[len..len];
+    if len < 188 || len - 188 < from {
+        return &[];
     }
-    if len - 188 < from {
-        return &bytes[len..len];
-    }
-    let end = from + 188;
-    &bytes[from..end]
+    &bytes[from..from + 188]
 }
 
 // The 188 bytes of packet k.
@@ -565,11 +563,11 @@ pub fn window(bytes: &[u8], layout: TsPacketLayout, k: usize) -> &[u8]
         return window_at(bytes, off);
     }
     if len / size < k {
-        return &bytes[len..len];
+        return &[];
     }
     let start = k * size;
     if len - start < off {
-        return &bytes[len..len];
+        return &[];
     }
     window_at(bytes, start + off)
 }
