@@ -9,6 +9,7 @@ use lib.ListN.{length, get_or, replicate, length-take, length-replicate, get_or-
 use lib.Seq.{get_or-append-add, get_or-take}
 use borrow.Author.Tests.{lt-ltb, le-ltb}
 use Rattle.std.proofs.lemmas.Bool.{cases_lt}
+use Rattle.scanner.specs.declared.StampBytes.{StampBytes}
 use Rattle.scanner.specs.declared.PesHeader.{PesHeader}
 use Rattle.scanner.specs.Joined.{byte_at, stamp_at}
 use Rattle.scanner.specs.State.{stamp_bytes_at, header_of, placed, unit_with}
@@ -47,28 +48,19 @@ module _ (n : ℕ) (h : PesHeader) (p : List ℕ) where
   kept_length : byte_at h.header_data_length n 8 p ≡ get_or (unit_with n h ++ p) 8 0
   kept_length = kept_byte 8 h.header_data_length refl
 
-  kept_pts : stamp_at h.pts n 9 p ≡ stamp_bytes_at (unit_with n h ++ p) 9
+  -- the five bytes of a stamp from byte i on
+  kept_stamp : (b : StampBytes) (i : ℕ) → get_or (placed h ++ replicate n 0) i 0 ≡ b.b0 → get_or (placed h ++ replicate n 0) (i + 1) 0 ≡ b.b1
+      → get_or (placed h ++ replicate n 0) (i + 2) 0 ≡ b.b2 → get_or (placed h ++ replicate n 0) (i + 3) 0 ≡ b.b3
+      → get_or (placed h ++ replicate n 0) (i + 4) 0 ≡ b.b4 → stamp_at b n i p ≡ stamp_bytes_at (unit_with n h ++ p) i
   unfolding stamp_at stamp_bytes_at
-  kept_pts =
+  kept_stamp b i e0 e1 e2 e3 e4 =
       λ j.
       record {
-        b0 = kept_byte 9 h.pts.b0 refl j;
-        b1 = kept_byte 10 h.pts.b1 refl j;
-        b2 = kept_byte 11 h.pts.b2 refl j;
-        b3 = kept_byte 12 h.pts.b3 refl j;
-        b4 = kept_byte 13 h.pts.b4 refl j;
-      }
-
-  kept_dts : stamp_at h.dts n 14 p ≡ stamp_bytes_at (unit_with n h ++ p) 14
-  unfolding stamp_at stamp_bytes_at
-  kept_dts =
-      λ j.
-      record {
-        b0 = kept_byte 14 h.dts.b0 refl j;
-        b1 = kept_byte 15 h.dts.b1 refl j;
-        b2 = kept_byte 16 h.dts.b2 refl j;
-        b3 = kept_byte 17 h.dts.b3 refl j;
-        b4 = kept_byte 18 h.dts.b4 refl j;
+        b0 = kept_byte i b.b0 e0 j;
+        b1 = kept_byte (i + 1) b.b1 e1 j;
+        b2 = kept_byte (i + 2) b.b2 e2 j;
+        b3 = kept_byte (i + 3) b.b3 e3 j;
+        b4 = kept_byte (i + 4) b.b4 e4 j;
       }
 
   -- the header of the unit with the payload, byte by byte
@@ -81,7 +73,14 @@ module _ (n : ℕ) (h : PesHeader) (p : List ℕ) where
   }) ≡ header_of (unit_with n h ++ p)
   unfolding header_of
   joined_is =
-      λ j. record { stream_id = kept_id j; flags = kept_flags j; header_data_length = kept_length j; pts = kept_pts j; dts = kept_dts j }
+      λ j.
+      record {
+        stream_id = kept_id j;
+        flags = kept_flags j;
+        header_data_length = kept_length j;
+        pts = kept_stamp h.pts 9 refl refl refl refl refl j;
+        dts = kept_stamp h.dts 14 refl refl refl refl refl j;
+      }
 
 -- A unit that goes on has the header of what is kept of it with the payload.
 module _ (u p : List ℕ) where

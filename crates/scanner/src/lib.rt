@@ -2,7 +2,7 @@
 // The Rust's `PesScanner` by value; a payload gives at most three runs, and no loop goes over its bytes.
 #![tactic(auto)]
 
-ghost use Rattle.std.specs.Prelude.{◌≡◌, true, false, [], ◌++◌, ◌+◌, ◌<◌, ◌≤◌};
+ghost use Rattle.std.specs.Prelude.{◌≡◌, true, false, [], ◌++◌, ◌+◌, ◌/◌, ◌<◌, ◌≤◌};
 ghost use Rattle.scanner.specs.Unit.{stamp_bytes, stamp_end_by, content_begin_by, cut, unit};
 ghost use Rattle.syntax.specs.TimeStamp.{timestamp};
 ghost use Rattle.scanner.specs.Joined.{byte_at, stamp_at, listed, decode_ts_in, stamp_here, cuts_by, kept_from, begun_at};
@@ -19,7 +19,7 @@ pub struct Runs {
     pub body: usize,
 }
 
-// A struct and not an array: an array field would bring its length as a fact that every definition has to carry.
+// A struct and not an array: its length would be a fact that no definition needs, but that laws over a header would have to ask.
 #[derive(Clone, Copy, Default)]
 pub struct StampBytes {
     pub b0: u8,
@@ -40,8 +40,8 @@ pub struct PesHeader {
 }
 
 // The open unit: its count of bytes, HEADER_LIMIT once its content has begun, and its header. 16 bytes without padding.
-// Fields and not an enum of the three states: callers in C hold each field as a word (crate `leaves`), and whatever they hold is a
-// state, so that reading it cannot fail.
+// Fields and not an enum of the three states: crate `rows` keeps each field at its own bytes and C (crate `leaves`) in its own word, so
+// that a state is stored and read without a case; with an enum both would have to tell its case and read it back.
 #[derive(Clone, Copy)]
 pub struct PesScanner {
     pub count: u16,
@@ -92,20 +92,6 @@ fn stamp_at(kept: StampBytes, n: usize, i: usize, payload: &[u8]) -> StampBytes
     }
 }
 
-// The header of a unit of n bytes with the payload behind them.
-#[tactic(auto, using(crate::proofs::Kept::joined_is))]
-fn joined(h: PesHeader, n: usize, payload: &[u8]) -> PesHeader
-    ensures { result ≡ header_of (unit_with n h ++ payload.now) }
-{
-    PesHeader {
-        stream_id: byte_at(h.stream_id, n, 3, payload),
-        flags: byte_at(h.flags, n, 7, payload),
-        header_data_length: byte_at(h.header_data_length, n, 8, payload),
-        pts: stamp_at(h.pts, n, 9, payload),
-        dts: stamp_at(h.dts, n, 14, payload),
-    }
-}
-
 #[tactic(auto, unfolding(crate::specs::Unit::stamp_bytes))]
 fn stamp_bytes(flags: u8) -> usize
     ensures { result ≡ stamp_bytes flags }
@@ -117,7 +103,7 @@ fn stamp_bytes(flags: u8) -> usize
     }
 }
 
-// This, `content_begin` and `decode_ts` speak of a unit that has the optional header.
+// This and `content_begin` speak of a unit that has the optional header.
 #[tactic(auto, unfolding(crate::specs::Unit::stamp_end_by))]
 fn stamp_end(flags: u8, length: u8) -> usize
     ensures { result ≡ stamp_end_by true flags length }
@@ -136,17 +122,6 @@ fn stamp(b: StampBytes) -> u64
     ensures { result ≡ timestamp (listed b) }
 {
     pes::read_ts33([b.b0, b.b1, b.b2, b.b3, b.b4])
-}
-
-#[tactic(auto, unfolding(crate::specs::Unit::decode_ts_by, crate::specs::Joined::decode_ts_in))]
-fn decode_ts(flags: u8, h: PesHeader) -> Option<u64>
-    ensures { result ≡ decode_ts_in true flags h }
-{
-    match flags {
-        2 if 5 <= h.header_data_length => Some(stamp(h.pts)),
-        3 if 10 <= h.header_data_length => Some(stamp(h.dts)),
-        _ => None,
-    }
 }
 
 // The stamp, if the run of so many bytes behind the first n reaches s. Two parameters, here and below: n bytes of the unit came
@@ -175,23 +150,50 @@ impl UnitCuts {
     }
 }
 
-// The two cuts and the stamp, from the header's bytes.
-#[tactic(auto, unfolding(crate::specs::Joined::cuts_by, crate::specs::Unit::stamp_end_by, crate::specs::Unit::content_begin_by, crate::specs::Joined::decode_ts_in, crate::specs::Unit::decode_ts_by))]
-fn cuts_of(h: PesHeader) -> UnitCuts
-    ensures { result ≡ cuts_by h }
-{
-    if !pes::has_optional_pes_header(h.stream_id) {
-        return UnitCuts {
-            stamp_end: 6,
-            content_begin: 6,
-            stamp: None,
-        };
+impl PesHeader {
+    // The header of a unit of n bytes with the payload behind them.
+    #[tactic(auto, using(crate::proofs::Kept::joined_is))]
+    fn joined(self, n: usize, payload: &[u8]) -> PesHeader
+        ensures { result ≡ header_of (unit_with n self ++ payload.now) }
+    {
+        PesHeader {
+            stream_id: byte_at(self.stream_id, n, 3, payload),
+            flags: byte_at(self.flags, n, 7, payload),
+            header_data_length: byte_at(self.header_data_length, n, 8, payload),
+            pts: stamp_at(self.pts, n, 9, payload),
+            dts: stamp_at(self.dts, n, 14, payload),
+        }
     }
-    let flags = h.flags / 64;
-    UnitCuts {
-        stamp_end: stamp_end(flags, h.header_data_length),
-        content_begin: content_begin(h.header_data_length),
-        stamp: decode_ts(flags, h),
+
+    // Of a unit that has the optional header, as `stamp_end` and `content_begin` are.
+    #[tactic(auto, unfolding(crate::specs::Unit::decode_ts_by, crate::specs::Joined::decode_ts_in))]
+    fn decode_ts(self) -> Option<u64>
+        ensures { result ≡ decode_ts_in true (self.flags / 64) self }
+    {
+        match self.flags / 64 {
+            2 if 5 <= self.header_data_length => Some(stamp(self.pts)),
+            3 if 10 <= self.header_data_length => Some(stamp(self.dts)),
+            _ => None,
+        }
+    }
+
+    // The two cuts and the stamp, from the header's bytes.
+    #[tactic(auto, unfolding(crate::specs::Joined::cuts_by, crate::specs::Unit::stamp_end_by, crate::specs::Unit::content_begin_by, crate::specs::Joined::decode_ts_in, crate::specs::Unit::decode_ts_by))]
+    fn cuts(self) -> UnitCuts
+        ensures { result ≡ cuts_by self }
+    {
+        if !pes::has_optional_pes_header(self.stream_id) {
+            return UnitCuts {
+                stamp_end: 6,
+                content_begin: 6,
+                stamp: None,
+            };
+        }
+        UnitCuts {
+            stamp_end: stamp_end(self.flags / 64, self.header_data_length),
+            content_begin: content_begin(self.header_data_length),
+            stamp: self.decode_ts(),
+        }
     }
 }
 
@@ -226,37 +228,6 @@ fn kept_behind(n: usize, size: usize, t: usize, h: PesHeader) -> PesScanner
         count: (n + size) as u16,
         started: true,
         header: h,
-    }
-}
-
-// The next bytes of a unit whose content may not have begun.
-#[tactic(auto, using(crate::proofs::Steps::taken, crate::proofs::Steps::begin_limit))]
-fn take_in(s: PesScanner, payload: &[u8]) -> Fed
-    requires { s.count < header_limit }
-    ensures { result ≡ fed_of (unit (unit_with s.count s.header)) false payload.now }
-{
-    let n = usize::from(s.count);
-    let h = joined(s.header, n, payload);
-    let cuts = cuts_of(h);
-    Fed {
-        runs: cuts.runs(n, payload.len()),
-        scanner: kept_behind(n, payload.len(), cuts.content_begin, h),
-    }
-}
-
-// The state before a payload of so many bytes: that of an empty unit, where the payload starts one.
-#[tactic(auto, unfolding(crate::specs::Joined::begun_at))]
-fn begun(s: PesScanner, start: bool, size: usize) -> PesScanner
-    ensures { result ≡ begun_at s start size }
-{
-    if start && 0 < size {
-        PesScanner {
-            count: 0,
-            started: true,
-            header: no_header(),
-        }
-    } else {
-        s
     }
 }
 
@@ -301,6 +272,37 @@ impl PesScanner {
         }
     }
 
+    // The state before a payload of so many bytes: that of an empty unit, where the payload starts one.
+    #[tactic(auto, unfolding(crate::specs::Joined::begun_at))]
+    fn begun(self, start: bool, size: usize) -> PesScanner
+        ensures { result ≡ begun_at self start size }
+    {
+        if start && 0 < size {
+            PesScanner {
+                count: 0,
+                started: true,
+                header: no_header(),
+            }
+        } else {
+            self
+        }
+    }
+
+    // The next bytes of a unit whose content may not have begun.
+    #[tactic(auto, using(crate::proofs::Steps::taken, crate::proofs::Steps::begin_limit))]
+    fn take_in(self, payload: &[u8]) -> Fed
+        requires { self.count < header_limit }
+        ensures { result ≡ fed_of (unit (unit_with self.count self.header)) false payload.now }
+    {
+        let n = usize::from(self.count);
+        let h = self.header.joined(n, payload);
+        let cuts = h.cuts();
+        Fed {
+            runs: cuts.runs(n, payload.len()),
+            scanner: kept_behind(n, payload.len(), cuts.content_begin, h),
+        }
+    }
+
     // The runs of a payload, and the state behind it.
     // Ruled out: runs before the first start, or from a start bit on an empty payload; the stamp with another run than the one that
     // reaches its end; the PTS where the DTS is coded.
@@ -308,7 +310,7 @@ impl PesScanner {
     pub fn feed(self, payload: &[u8], payload_unit_start: bool) -> Fed
         ensures { result ≡ fed_of (open_of self) payload_unit_start payload.now }
     {
-        let s = begun(self, payload_unit_start, payload.len());
+        let s = self.begun(payload_unit_start, payload.len());
         if !s.started {
             return Fed {
                 runs: only(0),
@@ -321,6 +323,6 @@ impl PesScanner {
                 scanner: in_content(),
             };
         }
-        take_in(s, payload)
+        s.take_in(payload)
     }
 }
