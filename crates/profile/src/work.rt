@@ -29,18 +29,18 @@ fn row_len(streams: usize, system_pids: usize) -> usize
 
 // Whether the f64 lent are enough. The queue depth may be any number, so the product is not formed before it fits.
 #[tactic(auto, using(crate::proofs::Sizes::times_compare))]
-fn times_fit(streams: usize, queue_depth: usize, clock_depth: usize, lent: usize) -> bool
-    requires { (streams ≤ max_streams) × (clock_depth ≤ max_clock_depth) }
-    ensures { result ≡ leb (times_needed streams queue_depth clock_depth) lent }
+fn times_fit(config: TStdConfig, lent: usize) -> bool
+    requires { (config.stream_count ≤ max_streams) × (config.clock_depth ≤ max_clock_depth) }
+    ensures { result ≡ leb (times_needed config.stream_count config.queue_depth config.clock_depth) lent }
 {
-    let clock = 3 * clock_depth;
+    let clock = 3 * config.clock_depth;
     if lent < clock {
         return false;
     }
-    if streams == 0 {
+    if config.stream_count == 0 {
         return true;
     }
-    queue_depth <= (lent - clock) / (8 * streams)
+    config.queue_depth <= (lent - clock) / (8 * config.stream_count)
 }
 
 #[tactic(auto, using(crate::proofs::Sizes::product), unfolding(crate::specs::Work::needed_of))]
@@ -70,12 +70,7 @@ pub fn check(
     if !in_limits(config, limits) {
         return Err(Refusal::OutsideLimits);
     }
-    if !times_fit(
-        config.stream_count,
-        config.queue_depth,
-        config.clock_depth,
-        lent.times,
-    ) {
+    if !times_fit(config, lent.times) {
         return Err(Refusal::WorkTooShort);
     }
     let size = needed(config);
