@@ -12,23 +12,11 @@ use arrival::{ClockPass, IntervalsMut};
 use error::Refusal;
 use packet::{TsPacket, TsPacketLayout};
 
-// `bytes` and `layout` stay two parameters, here and below: packet k is asked of the recording's bytes by the layout, and
-// `packet::window(bytes, layout, k)` takes them so.
-// How many packets from the first on, at most `count`, are known to lie in the recording: none where a packet is shorter than 188
-// bytes or longer than the recording.
-fn whole_packets(bytes: &[u8], layout: TsPacketLayout, count: usize) -> usize
-    ensures { (result ≤ count) × Whole layout bytes.now result }
-{
-    let size = layout.packet_size;
-    let len = bytes.len();
-    if size < 188 || len < size {
-        return 0;
-    }
-    let room = len - 188;
-    if room < layout.sync_offset {
-        return 0;
-    }
-    count.min((room - layout.sync_offset) / size + 1)
+// The bytes of a recording and how its packets lie in them.
+#[derive(Clone, Copy)]
+struct Recording<'a> {
+    bytes: &'a [u8],
+    layout: TsPacketLayout,
 }
 
 // Whether the packet at a place is of the PCR PID and has an adaptation field, by bytes 1 to 3 alone.
@@ -41,23 +29,43 @@ fn has_field_at(bytes: &[u8], place: usize, pcr_pid: u16) -> bool
     has_field && packet::pid_of(bytes[place + 1], bytes[place + 2]) == pcr_pid
 }
 
-// The next packet, from packet k on and before `end`, that has an adaptation field on the PCR PID; else where the search ends.
-#[tactic(auto, using(crate::proofs::Stretch::search_starts))]
-fn next_field_on(bytes: &[u8], layout: TsPacketLayout, k: usize, end: usize, pcr_pid: u16) -> usize
-    requires { Whole layout bytes.now end }
-    ensures { (k ≤ result) × (result ≤ max k end) × NoFieldOn pcr_pid layout bytes.now k result }
-{
-    if end <= k {
-        return k;
-    }
-    let mut place = k * layout.packet_size + layout.sync_offset;
-    for next in k..end {
-        if has_field_at(bytes, place, pcr_pid) {
-            return next;
+impl Recording<'_> {
+    // How many packets from the first on, at most `count`, are known to lie in the recording: none where a packet is shorter than 188
+    // bytes or longer than the recording.
+    fn whole_packets(self, count: usize) -> usize
+        ensures { (result ≤ count) × Whole self.entry.layout self.entry.bytes.now result }
+    {
+        let size = self.layout.packet_size;
+        let len = self.bytes.len();
+        if size < 188 || len < size {
+            return 0;
         }
-        place += layout.packet_size;
+        let room = len - 188;
+        if room < self.layout.sync_offset {
+            return 0;
+        }
+        count.min((room - self.layout.sync_offset) / size + 1)
     }
-    end
+
+    // The next packet, from packet k on and before `end`, that has an adaptation field on the PCR PID; else where the search ends.
+    #[tactic(auto, using(crate::proofs::Stretch::search_starts))]
+    fn next_field_on(self, k: usize, end: usize, pcr_pid: u16) -> usize
+        requires { Whole self.layout self.bytes.now end }
+        ensures { (k ≤ result) × (result ≤ max k end) × NoFieldOn pcr_pid self.entry.layout self.entry.bytes.now k result }
+    {
+        if end <= k {
+            return k;
+        }
+        let Recording { bytes, layout } = self;
+        let mut place = k * layout.packet_size + layout.sync_offset;
+        for next in k..end {
+            if has_field_at(bytes, place, pcr_pid) {
+                return next;
+            }
+            place += layout.packet_size;
+        }
+        end
+    }
 }
 
 // Where the packet begins that follows n packets from `start` on. A packet whose end has no position does not move it.
@@ -82,11 +90,12 @@ pub fn build(
     ensures { Answers (pass_over pcr_pid intervals.old.depth intervals.old.times.now intervals.old.places.now (parses_from layout bytes.now 0 count)) result intervals.old intervals.new }
 {
     let mut pass = ClockPass::new();
-    let whole = whole_packets(bytes, layout, count);
+    let recording = Recording { bytes, layout };
+    let whole = recording.whole_packets(count);
     let mut k = 0;
     // A `while`: each turn goes to the next field, and no step is known before the search.
     while k < count {
-        let next = next_field_on(bytes, layout, k, whole, pcr_pid);
+        let next = recording.next_field_on(k, whole, pcr_pid);
         pass.start = start_behind(pass.start, next - k);
         k = next;
         if k < count {

@@ -1,6 +1,6 @@
--- `arrival_clock::next_field_on` meets its contract: each packet without a field takes the search one packet on. Assumes nothing.
+-- `arrival_clock::Recording::next_field_on` meets its contract: each packet without a field takes the search one packet on. Assumes nothing.
 use Rattle.arrival_clock.proofs.Stretch.{search_on}
-use Rattle.arrival_clock.proofs.next_field_on.Goals as goal
+use Rattle.arrival_clock.proofs.Recording.next_field_on.Goals as goal
 
 pub loop-next-preserved : goal.loop-next-preserved
 loop-next-preserved c =

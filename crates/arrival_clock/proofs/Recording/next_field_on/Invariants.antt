@@ -1,7 +1,7 @@
--- `arrival_clock::next_field_on` meets its contract. The invariant: no field before `next`, and its packet is looked for at its place.
+-- `arrival_clock::Recording::next_field_on` meets its contract. The invariant: no field before `next`, and its packet is looked for at its place.
 -- Assumes nothing.
 use Rattle.arrival_clock.proofs.Stretch.{Searched}
-use Rattle.arrival_clock.proofs.next_field_on.Given as goal
+use Rattle.arrival_clock.proofs.Recording.next_field_on.Given as goal
 
 abbrev pub invariant-loop-next : goal.invariant-loop-next
-invariant-loop-next l = Searched l.pcr_pid l.layout l.bytes l.k l.next l.place
+invariant-loop-next l = Searched l.pcr_pid l.self.layout l.self.bytes.now l.k l.next l.place
