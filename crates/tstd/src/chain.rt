@@ -1,6 +1,6 @@
 // A stream's chain: its transport buffer, its scanner and its branch.
 ghost use Rattle.std.specs.Prelude.{◌≡◌, ◌<◌, ◌≤◌};
-ghost use Rattle.tstd.specs.Chain.{new_branch, new_chain, ChainsOf, scans_in, scanned, StepOf, FinishOf, PacketOf, EndOf};
+ghost use Rattle.tstd.specs.Chain.{new_branch, new_chain, ChainsOf, scanned, StepOf, FinishOf, PacketOf, EndOf};
 
 use crate::front;
 use arrival::PacketArrival;
@@ -79,22 +79,14 @@ impl Branch {
     }
 }
 
-// Whether the scanner is to be fed: the packet has payload, and a header of a unit is in it or may be.
-// By & and |: with && and || a replay takes one to two per cent more instructions.
-#[tactic(auto, unfolding(crate::specs::Chain::scans_in))]
-fn scans(s: PesScanner, header: PacketHeader) -> bool
-    ensures { result ≡ scans_in s header }
-{
-    (header.payload_start < 188) & (header.payload_unit_start | s.in_header())
-}
-
-// The runs of a packet's payload. The scanner is read whole and written only where it is fed: its header is 13 single bytes.
-#[tactic(auto, unfolding(crate::specs::Chain::scanned))]
+// The runs of a packet's payload. The scanner is fed where the payload has bytes and a header of a unit is in it or may be.
+// It is read whole and written only then: its header is 13 single bytes.
+#[tactic(auto, unfolding(crate::specs::Chain::scanned, crate::specs::Chain::scans_in))]
 fn scan(s: &mut PesScanner, window: &[u8], header: PacketHeader) -> Runs
     ensures runs { result ≡ (scanned s.old window.now header).runs }
     ensures scanner { s.new ≡ (scanned s.old window.now header).scanner }
 {
-    if scans(*s, header) {
+    if header.payload_start < 188 && (header.payload_unit_start || s.in_header()) {
         let fed = s.feed(
             packet::payload(window, header.payload_start),
             header.payload_unit_start,
