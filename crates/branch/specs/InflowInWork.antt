@@ -1,5 +1,5 @@
 -- A `CumulativeIn` whose runs stand in a ring of the work, as the list of its runs; what its functions ensure.
-use Rattle.std.specs.Prelude.{◌+◌, ◌*◌, ◌≡◌, true, false, ⊤, Result, is_err, List, get_or, Float}
+use Rattle.std.specs.Prelude.{◌+◌, ◌*◌, ◌≡◌, true, false, ⊤, Result, is_err, List, [], ◌∷◌, get_or, Float}
 use Rattle.std.specs.Float.{nan}
 use Rattle.branch.specs.declared.Run.{Run}
 use Rattle.branch.specs.declared.QueueFull.{QueueFull}
@@ -13,6 +13,9 @@ use Rattle.branch.specs.CumulativeIn.{Inflow, settle, arrived_by, push_run, run_
 -- an entry's floats are t0, t1 and the bytes
 abbrev pub run_of : List Float → Run
 run_of e = record { t0 = get_or e 0 nan; t1 = get_or e 1 nan; bytes = get_or e 2 nan }
+
+abbrev pub floats_of_run : Run → List Float
+floats_of_run r = r.t0 ∷ (r.t1 ∷ (r.bytes ∷ []))
 
 abbrev pub runs_of : List Float → Place → Ring → List Run
 runs_of w p q = entries 3 (λ u o. run_of (floats_at 3 u o)) w p q

@@ -37,6 +37,9 @@ use Rattle.branch.specs.VideoBranch.{VideoRates, Transfer, header_bytes, marks_l
 abbrev pub mark_of : List Float → HeaderMark
 mark_of e = record { threshold = get_or e 0 nan; bytes = get_or e 1 nan }
 
+abbrev pub floats_of_mark : HeaderMark → List Float
+floats_of_mark m = m.threshold ∷ (m.bytes ∷ [])
+
 unfoldable pub mark_at : List Float → ℕ → HeaderMark
 mark_at w p = mark_of (floats_at 2 w p)
 

@@ -38,8 +38,7 @@ fn run_at(q: Ring, w: Place, work: &[f64], i: usize) -> Run
     requires i_lt_count { i < q.count }
     ensures { result ≡ run_of (floats_at 3 work.now (place_of 3 w q i)) }
 {
-    let [t0, t1, bytes] = q.entry::<3>(w, work, i);
-    Run { t0, t1, bytes }
+    Run::from(q.entry(w, work, i))
 }
 
 impl CumulativeIn {
@@ -51,7 +50,7 @@ impl CumulativeIn {
         if !(run.bytes > 0.0) {
             return Ok(());
         }
-        self.runs.push(w, work, [run.t0, run.t1, run.bytes])
+        self.runs.push(w, work, <[f64; 3]>::from(run))
     }
 
     // The runs that have ended by t go from the ring to the sum.

@@ -87,8 +87,7 @@ fn header_bytes(first: Ring, w: Place, work: &[f64], start: f64, end: f64) -> He
     let mut q = first;
     let mut sum = 0.0;
     while 0 < q.count {
-        let [threshold, bytes] = q.entry::<2>(w, work, 0);
-        let m = HeaderMark { threshold, bytes };
+        let m = HeaderMark::from(q.entry(w, work, 0));
         if m.threshold - m.bytes >= end {
             break;
         }

@@ -4,6 +4,7 @@
 // matches on the kind of a stream all the same. A push into Bsys and one into a ring share the name alone.
 #![tactic(auto)]
 
+mod entries;
 pub mod inflow;
 pub mod leak;
 pub mod main_branch;

@@ -3,7 +3,7 @@ ghost use Rattle.std.specs.Prelude.{◌≡◌, ◌+◌, ◌≤◌, ◌<◌};
 ghost use Rattle.events.specs.Slots.{noted_all};
 ghost use Rattle.branch.specs.Queue.{Lies};
 ghost use Rattle.branch.specs.Units.{close_units, open_units, stamp_of, unit_events};
-ghost use Rattle.branch.specs.UnitsInWork.{floats_of_unit, no_units, waiting_of, UnitsTo, grown_units, FirstOf, DueOf, removed_units};
+ghost use Rattle.branch.specs.UnitsInWork.{no_units, waiting_of, UnitsTo, grown_units, FirstOf, DueOf, removed_units};
 
 use crate::queue::{Place, Ring};
 use crate::{AccessUnit, Delivered, QueueFull};
@@ -17,13 +17,6 @@ pub struct Units {
     pub open_au: Option<AccessUnit>,
     pub access_units: u64,
     pub max_delay_seconds: f64,
-}
-
-// The unit as an entry of the ring of pending units.
-fn entry_of(u: AccessUnit) -> [f64; 3]
-    ensures { result ≡ floats_of_unit u }
-{
-    [u.decode_time, u.bytes, u.first_input_time]
 }
 
 // What a removal tells of its unit: underflow and delay.
@@ -81,7 +74,7 @@ impl Units {
         let Some(u) = self.open_au else {
             return Ok(());
         };
-        self.pending.push(w, work, entry_of(u))?;
+        self.pending.push(w, work, <[f64; 3]>::from(u))?;
         self.open_au = None;
         Ok(())
     }
@@ -119,12 +112,7 @@ impl Units {
         if self.pending.count == 0 {
             return None;
         }
-        let [decode_time, bytes, first_input_time] = self.pending.entry::<3>(w, work, 0);
-        Some(AccessUnit {
-            decode_time,
-            bytes,
-            first_input_time,
-        })
+        Some(AccessUnit::from(self.pending.entry(w, work, 0)))
     }
 
     // The same, where it is due.

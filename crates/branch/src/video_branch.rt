@@ -9,7 +9,7 @@ use crate::inflow::CumulativeIn;
 use crate::leak::{Flow, Leak, VideoLayout};
 use crate::queue::{Place, Ring};
 use crate::units::{Units, note_removal};
-use crate::{AccessUnit, Delivered, QueueFull, Run};
+use crate::{AccessUnit, Delivered, HeaderMark, QueueFull, Run};
 use events::{EventKind, Slots};
 use ieee::{max, min};
 
@@ -164,8 +164,15 @@ impl VideoBranch {
         requires apart { Apart m × (self.old.leak.flow.marks.count < m.marks.depth) }
         ensures { MarkedTo work.old m self.old bytes self.new work.new }
     {
-        let mark = [self.queued, bytes];
-        self.leak.flow.marks.push(m.marks, work, mark).unwrap();
+        let mark = HeaderMark {
+            threshold: self.queued,
+            bytes,
+        };
+        self.leak
+            .flow
+            .marks
+            .push(m.marks, work, <[f64; 2]>::from(mark))
+            .unwrap();
     }
 
     // A run of content: its bytes are the open unit's too.

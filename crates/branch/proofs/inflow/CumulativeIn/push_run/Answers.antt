@@ -6,4 +6,4 @@ pub returns-then-not-run : goal.returns-then-not-run
 returns-then-not-run c = run_empty _ _ _ _ c.requires c.if-not-run.true
 
 pub returns : goal.returns
-returns c = run_pushed _ _ _ _ _ c.requires _ _ c.if-not-run.false c.push.ensures
+returns c = run_pushed _ _ _ _ _ c.requires _ _ c.if-not-run.false (rw c.from.ensures at c.push.ensures)
