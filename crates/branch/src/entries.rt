@@ -29,7 +29,11 @@ impl From<[f64; 3]> for AccessUnit {
 
     // Ruled out: decode time and first input time exchanged; the bytes first.
     fn from([decode_time, bytes, first_input_time]: [f64; 3]) -> AccessUnit {
-        AccessUnit { decode_time, bytes, first_input_time }
+        AccessUnit {
+            decode_time,
+            bytes,
+            first_input_time,
+        }
     }
 }
 

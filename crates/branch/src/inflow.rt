@@ -20,16 +20,18 @@ pub struct Arrived {
     pub total: f64,
 }
 
-// How much of a run has arrived by t, where the run has begun.
-#[tactic(auto, unfolding(crate::specs::CumulativeIn::fraction, crate::specs::CumulativeIn::clamp))]
-fn fraction_by(run: Run, t: f64) -> f64
-    ensures { result ≡ fraction run t }
-{
-    let span = run.t1 - run.t0;
-    if span <= 0.0 {
-        return 1.0;
+impl Run {
+    // How much of a run has arrived by t, where the run has begun.
+    #[tactic(auto, unfolding(crate::specs::CumulativeIn::fraction, crate::specs::CumulativeIn::clamp))]
+    fn fraction_by(self, t: f64) -> f64
+        ensures { result ≡ fraction self t }
+    {
+        let span = self.t1 - self.t0;
+        if span <= 0.0 {
+            return 1.0;
+        }
+        ((t - self.t0) / span).clamp(0.0, 1.0)
     }
-    ((t - run.t0) / span).clamp(0.0, 1.0)
 }
 
 // The run i from the front.
@@ -87,7 +89,7 @@ impl CumulativeIn {
             if run.t0 >= t {
                 return sum;
             }
-            sum = sum + run.bytes * fraction_by(run, t);
+            sum = sum + run.bytes * run.fraction_by(t);
         }
         sum
     }

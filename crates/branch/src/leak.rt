@@ -68,15 +68,17 @@ pub struct Turned {
     leak: Leak,
 }
 
-// The bytes of a mark between start and end.
-#[tactic(auto, unfolding(crate::specs::VideoBranch::overlap))]
-fn overlap(m: HeaderMark, start: f64, end: f64) -> f64
-    ensures { result ≡ overlapOf m start end }
-{
-    max(
-        min(end, m.threshold) - max(start, m.threshold - m.bytes),
-        0.0,
-    )
+impl HeaderMark {
+    // The bytes of a mark between start and end.
+    #[tactic(auto, unfolding(crate::specs::VideoBranch::overlap))]
+    fn overlap(self, start: f64, end: f64) -> f64
+        ensures { result ≡ overlapOf self start end }
+    {
+        max(
+            min(end, self.threshold) - max(start, self.threshold - self.bytes),
+            0.0,
+        )
+    }
 }
 
 // The marked bytes between start and end; the marks that end there go.
@@ -91,7 +93,7 @@ fn header_bytes(first: Ring, w: Place, work: &[f64], start: f64, end: f64) -> He
         if m.threshold - m.bytes >= end {
             break;
         }
-        sum = sum + overlap(m, start, end);
+        sum = sum + m.overlap(start, end);
         if m.threshold <= end {
             q.pop(w);
         } else {
@@ -104,24 +106,26 @@ fn header_bytes(first: Ring, w: Place, work: &[f64], start: f64, end: f64) -> He
     }
 }
 
-// Bytes leave MBn: those that are marked are dropped, the others enter EBn.
-#[tactic(auto, unfolding(crate::specs::VideoBranch::transfer, crate::specs::VideoBranch::moved, crate::specs::VideoBranch::eb_in_after, crate::specs::VideoInWork::flow_of))]
-fn transfer(f: Flow, w: Place, work: &[f64], bytes: f64) -> Flow
-    requires { Lies 2 work.now w f.marks }
-    ensures { Transferred work.now w f bytes result }
-{
-    if bytes <= 0.0 {
-        return f;
-    }
-    let end = f.transferred + bytes;
-    let h = header_bytes(f.marks, w, work, f.transferred, end);
-    let eb_in = f.eb_in + (bytes - h.bytes);
-    Flow {
-        marks: h.marks,
-        transferred: end,
-        eb_in,
-        eb_peak: max(f.eb_peak, eb_in - f.eb_removed),
-        ..f
+impl Flow {
+    // Bytes leave MBn: those that are marked are dropped, the others enter EBn.
+    #[tactic(auto, unfolding(crate::specs::VideoBranch::transfer, crate::specs::VideoBranch::moved, crate::specs::VideoBranch::eb_in_after, crate::specs::VideoInWork::flow_of))]
+    fn transfer(self, w: Place, work: &[f64], bytes: f64) -> Flow
+        requires { Lies 2 work.now w self.marks }
+        ensures { Transferred work.now w self bytes result }
+    {
+        if bytes <= 0.0 {
+            return self;
+        }
+        let end = self.transferred + bytes;
+        let h = header_bytes(self.marks, w, work, self.transferred, end);
+        let eb_in = self.eb_in + (bytes - h.bytes);
+        Flow {
+            marks: h.marks,
+            transferred: end,
+            eb_in,
+            eb_peak: max(self.eb_peak, eb_in - self.eb_removed),
+            ..self
+        }
     }
 }
 
@@ -236,7 +240,7 @@ impl Leak {
         let got = self.mb_in.arrived_by(m.runs, work, t);
         let arriving = got.total - self.flow.transferred - available;
         let take = min(arriving, max(room, 0.0));
-        let flow = transfer(self.flow, m.marks, work, max(take, 0.0));
+        let flow = self.flow.transfer(m.marks, work, max(take, 0.0));
         let mut next = Turned {
             total: Some(got.total),
             leak: Leak {
@@ -266,7 +270,7 @@ impl Leak {
         let now = self.proc_time;
         let take = min(min(m.rbx * (t - now), available), room);
         Leak {
-            flow: transfer(self.flow, m.marks, work, take),
+            flow: self.flow.transfer(m.marks, work, take),
             proc_time: now + max(take / m.rbx, 1e-6),
             ..self
         }

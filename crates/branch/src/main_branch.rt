@@ -28,40 +28,25 @@ pub struct MainBranch {
     pub peak: f64,
 }
 
-fn runs_place(p: MainModel) -> Place
-    ensures { result ≡ runs_place p }
-{
-    Place {
-        base: p.base,
-        depth: p.depth,
+impl MainModel {
+    fn runs_place(self) -> Place
+        ensures { result ≡ runs_place self }
+    {
+        Place {
+            base: self.base,
+            depth: self.depth,
+        }
     }
-}
 
-fn units_place(p: MainModel) -> Place
-    requires { p.base + 6 * p.depth ≤ 9223372036854775807 }
-    ensures { result ≡ units_place p }
-{
-    Place {
-        base: p.base + 3 * p.depth,
-        depth: p.depth,
+    fn units_place(self) -> Place
+        requires { self.base + 6 * self.depth ≤ 9223372036854775807 }
+        ensures { result ≡ units_place self }
+    {
+        Place {
+            base: self.base + 3 * self.depth,
+            depth: self.depth,
+        }
     }
-}
-
-// The rings lie in a work of len floats, the count of units has room, and the chain has slots.
-#[tactic(auto, unfolding(crate::specs::MainInWork::ready))]
-fn ready(b: MainBranch, p: MainModel, len: usize, k: usize) -> bool
-    requires { len ≤ 1152921504606846976 }
-    ensures { result ≡ readyDef len p b k }
-{
-    if p.depth > len || p.base > len {
-        return false;
-    }
-    // not &&, of which the proof would make a case each
-    (p.base + 6 * p.depth <= len)
-        & b.inflow.runs.fits(p.depth)
-        & b.units.pending.fits(p.depth)
-        & (b.units.access_units < 1 << 63)
-        & (k < 64)
 }
 
 impl MainBranch {
@@ -82,16 +67,35 @@ impl MainBranch {
         }
     }
 
+    // The rings lie in a work of len floats, the count of units has room, and the chain has slots. Work that does not fit is no error: a
+    // public function demands nothing, and the contract says that all stays as it is (`Unchanged`). The one caller, tstd's replay, always
+    // meets the test, since it has answered OutsideLimits or WorkTooShort before.
+    #[tactic(auto, unfolding(crate::specs::MainInWork::ready))]
+    fn ready(self, p: MainModel, len: usize, k: usize) -> bool
+        requires { len ≤ 1152921504606846976 }
+        ensures { result ≡ readyDef len p self k }
+    {
+        if p.depth > len || p.base > len {
+            return false;
+        }
+        // not &&, of which the proof would make a case each
+        (p.base + 6 * p.depth <= len)
+            & self.inflow.runs.fits(p.depth)
+            & self.units.pending.fits(p.depth)
+            & (self.units.access_units < 1 << 63)
+            & (k < 64)
+    }
+
     // At the end the unit whose bytes were arriving becomes a pending one. Ruled out: a unit that is dropped where its queue is full;
     // a unit that is pending and still open.
     #[tactic(auto, using(crate::proofs::MainSteps::close_not_ready, crate::proofs::MainSteps::close_made, crate::proofs::MainSteps::ready_room, crate::proofs::MainSteps::ready_pending))]
     pub fn close(&mut self, p: MainModel, work: &mut [f64]) -> Result<(), QueueFull>
         ensures { CloseOf work.old p self.old result self.new work.new }
     {
-        if !ready(*self, p, work.len(), 0) {
+        if !self.ready(p, work.len(), 0) {
             return Ok(());
         }
-        self.units.close(units_place(p), work)
+        self.units.close(p.units_place(), work)
     }
 
     // The first pending unit, u, is removed.
@@ -101,7 +105,7 @@ impl MainBranch {
         requires count_bound { self.old.units.access_units < 18446744073709551615 }
         ensures { RemovedTo work.now p self.old u k slots.old self.new slots.new }
     {
-        let got = self.inflow.arrived_by(runs_place(p), work, u.decode_time);
+        let got = self.inflow.arrived_by(p.runs_place(), work, u.decode_time);
         let fullness = got.total - self.removed;
         let required = self.required + u.bytes;
         slots.note_kind_if(
@@ -113,20 +117,21 @@ impl MainBranch {
         );
         note_removal(got.total, required, u, slots, k);
         self.inflow = got.inflow;
-        self.units.remove(units_place(p), u);
+        self.units.remove(p.units_place(), u);
         self.removed = ieee::min(required, got.total);
         self.required = required;
         self.peak = ieee::max(self.peak, fullness);
     }
 
-    // Every pending unit with a decode time up to the frontier is removed, in queue order.
+    // Every pending unit with a decode time up to the frontier is removed, in queue order. Not by `Units::due`: where a decode time is no
+    // number the definition, `drain_from`, removes the unit, and `due` would leave it.
     #[tactic(auto, using(crate::proofs::Removals::drain_stops, crate::proofs::Removals::drain_ends))]
     fn drain(&mut self, p: MainModel, work: &[f64], frontier: f64, slots: &mut Slots, k: usize)
         requires branch_lies { BranchLies work.now p self.old }
         requires count_bound { self.old.units.access_units + self.old.units.pending.count ≤ 18446744073709551615 }
         ensures { DrainedTo work.now p k slots.old (drainDef p.buffer_size frontier (main_of work.now p self.old)) self.new slots.new }
     {
-        while let Some(u) = self.units.first(units_place(p), work) {
+        while let Some(u) = self.units.first(p.units_place(), work) {
             if u.decode_time > frontier {
                 break;
             }
@@ -139,7 +144,7 @@ impl MainBranch {
         requires branch_lies { BranchLies work.now p self.old }
         ensures { DrainedTo work.now p k slots.old (look_at_end p.buffer_size (main_of work.now p self.old)) self.new slots.new }
     {
-        let fullness = self.inflow.final_total(runs_place(p), work) - self.removed;
+        let fullness = self.inflow.final_total(p.runs_place(), work) - self.removed;
         slots.note_kind_if(
             fullness > p.buffer_size + 1.0,
             k,
@@ -159,7 +164,7 @@ impl MainBranch {
         if !(run.bytes > 0.0) {
             return Ok(());
         }
-        self.inflow.push_run(runs_place(p), work, run)?;
+        self.inflow.push_run(p.runs_place(), work, run)?;
         self.units.grow(run.bytes);
         Ok(())
     }
@@ -169,7 +174,7 @@ impl MainBranch {
         requires { BranchLies work.old p self.old }
         ensures { FedTo work.old p self.old (deliverDef p.depth d (main_of work.old p self.old)) result self.new work.new }
     {
-        self.units.open(units_place(p), work, d)?;
+        self.units.open(p.units_place(), work, d)?;
         self.add_run(p, work, d.head)?;
         self.add_run(p, work, d.rest)?;
         self.add_run(p, work, d.body)
@@ -189,7 +194,7 @@ impl MainBranch {
     ) -> Result<(), QueueFull>
         ensures { StepOf work.old p self.old d t k slots.old result self.new work.new slots.new }
     {
-        if !ready(*self, p, work.len(), k) {
+        if !self.ready(p, work.len(), k) {
             return Ok(());
         }
         self.drain(p, work, t, slots, k);
@@ -208,10 +213,10 @@ impl MainBranch {
     ) -> Result<(), QueueFull>
         ensures { FinishOf work.old p self.old k slots.old result self.new work.new slots.new }
     {
-        if !ready(*self, p, work.len(), k) {
+        if !self.ready(p, work.len(), k) {
             return Ok(());
         }
-        self.units.close(units_place(p), work)?;
+        self.units.close(p.units_place(), work)?;
         self.drain(p, work, f64::INFINITY, slots, k);
         self.look_at_end(p, work, slots, k);
         Ok(())

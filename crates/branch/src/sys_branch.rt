@@ -22,34 +22,6 @@ pub fn rsys(rate: f64) -> f64
     ieee::max(rate * 8.0 / 500.0, 80000.0) / 8.0
 }
 
-fn since(s: SysBranch, t0: f64) -> f64
-    ensures { result ≡ sinceDef s t0 }
-{
-    if s.last_time == f64::NEG_INFINITY {
-        return t0;
-    }
-    s.last_time
-}
-
-// The fullness once the idle gap has drained.
-#[tactic(auto, unfolding(crate::specs::SysBranch::idled))]
-fn idled(s: SysBranch, t0: f64, rate: f64) -> f64
-    ensures { result ≡ idledDef s t0 rate }
-{
-    let gap = ieee::max(t0 - since(s, t0), 0.0);
-    ieee::max(s.fullness - rate * gap, 0.0)
-}
-
-// The fullness at the run's end.
-#[tactic(auto, unfolding(crate::specs::SysBranch::filled))]
-fn filled(s: SysBranch, run: Run, rate: f64) -> f64
-    ensures { result ≡ filledDef s run rate }
-{
-    let left = idled(s, run.t0, rate);
-    let span = ieee::max(run.t1 - run.t0, 0.0);
-    ieee::max(left + run.bytes - rate * span, 0.0)
-}
-
 impl SysBranch {
     // Ruled out: a clock that starts at 0; a peak that falls.
     pub fn new() -> SysBranch
@@ -62,13 +34,41 @@ impl SysBranch {
         }
     }
 
+    fn since(self, t0: f64) -> f64
+        ensures { result ≡ sinceDef self t0 }
+    {
+        if self.last_time == f64::NEG_INFINITY {
+            return t0;
+        }
+        self.last_time
+    }
+
+    // The fullness once the idle gap has drained.
+    #[tactic(auto, unfolding(crate::specs::SysBranch::idled))]
+    fn idled(self, t0: f64, rate: f64) -> f64
+        ensures { result ≡ idledDef self t0 rate }
+    {
+        let gap = ieee::max(t0 - self.since(t0), 0.0);
+        ieee::max(self.fullness - rate * gap, 0.0)
+    }
+
+    // The fullness at the run's end.
+    #[tactic(auto, unfolding(crate::specs::SysBranch::filled))]
+    fn filled(self, run: Run, rate: f64) -> f64
+        ensures { result ≡ filledDef self run rate }
+    {
+        let left = self.idled(run.t0, rate);
+        let span = ieee::max(run.t1 - run.t0, 0.0);
+        ieee::max(left + run.bytes - rate * span, 0.0)
+    }
+
     // A run goes into Bsys, at the rate around its time; an overflow goes to slot k.
     // Ruled out: an overflow at 1536 bytes without the byte of tolerance; the gap before the first run drained.
     #[tactic(auto, unfolding(crate::specs::SysBranch::push_sys), using(crate::proofs::SysEvents::sys_noted))]
     pub fn push(self, run: Run, rate: f64, slots: &mut Slots, k: usize) -> SysBranch
         ensures { (result ≡ push_sys self run rate) × (slots.new ≡ noted_all k (sys_events self run rate) slots.old) }
     {
-        let fullness = filled(self, run, rate);
+        let fullness = self.filled(run, rate);
         slots.note_kind_if(
             fullness > 1536.0 + 1.0,
             k,

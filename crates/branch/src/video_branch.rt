@@ -34,45 +34,29 @@ pub struct VideoBranch {
     pub eb_required: f64,
 }
 
-// The rings lie in a work of len floats, the count of units has room, and the chain has slots.
-#[tactic(auto, unfolding(crate::specs::VideoInWork::ready))]
-fn ready(b: VideoBranch, p: VideoModel, len: usize, k: usize) -> bool
-    requires { len ≤ 1152921504606846976 }
-    ensures { result ≡ readyOf len p b k }
-{
-    if p.depth > len || p.base > len {
-        return false;
-    }
-    // not &&, of which the proof would make a case each
-    (p.base + 8 * p.depth <= len)
-        & b.leak.mb_in.runs.fits(p.depth)
-        & b.units.pending.fits(p.depth)
-        & b.leak.flow.marks.fits(p.depth)
-        & (b.units.access_units < 1 << 63)
-        & (k < 64)
-}
-
-// The three rings stand one behind the other.
-fn layout(p: VideoModel) -> VideoLayout
-    requires { p.base + 8 * p.depth ≤ 9223372036854775807 }
-    ensures { result ≡ layout_of p }
-{
-    VideoLayout {
-        rbx: p.rbx,
-        mb_size: p.mb_size,
-        eb_size: p.eb_size,
-        runs: Place {
-            base: p.base,
-            depth: p.depth,
-        },
-        units: Place {
-            base: p.base + 3 * p.depth,
-            depth: p.depth,
-        },
-        marks: Place {
-            base: p.base + 6 * p.depth,
-            depth: p.depth,
-        },
+impl VideoModel {
+    // The three rings stand one behind the other.
+    fn layout(self) -> VideoLayout
+        requires { self.base + 8 * self.depth ≤ 9223372036854775807 }
+        ensures { result ≡ layout_of self }
+    {
+        VideoLayout {
+            rbx: self.rbx,
+            mb_size: self.mb_size,
+            eb_size: self.eb_size,
+            runs: Place {
+                base: self.base,
+                depth: self.depth,
+            },
+            units: Place {
+                base: self.base + 3 * self.depth,
+                depth: self.depth,
+            },
+            marks: Place {
+                base: self.base + 6 * self.depth,
+                depth: self.depth,
+            },
+        }
     }
 }
 
@@ -104,6 +88,26 @@ impl VideoBranch {
             queued: 0.0,
             eb_required: 0.0,
         }
+    }
+
+    // The rings lie in a work of len floats, the count of units has room, and the chain has slots. Work that does not fit is no error: a
+    // public function demands nothing, and the contract says that all stays as it is (`Unchanged`). The one caller, tstd's replay, always
+    // meets the test, since it has answered OutsideLimits or WorkTooShort before.
+    #[tactic(auto, unfolding(crate::specs::VideoInWork::ready))]
+    fn ready(self, p: VideoModel, len: usize, k: usize) -> bool
+        requires { len ≤ 1152921504606846976 }
+        ensures { result ≡ readyOf len p self k }
+    {
+        if p.depth > len || p.base > len {
+            return false;
+        }
+        // not &&, of which the proof would make a case each
+        (p.base + 8 * p.depth <= len)
+            & self.leak.mb_in.runs.fits(p.depth)
+            & self.units.pending.fits(p.depth)
+            & self.leak.flow.marks.fits(p.depth)
+            & (self.units.access_units < 1 << 63)
+            & (k < 64)
     }
 
     // The first pending unit, u, is removed from EBn.
@@ -225,10 +229,10 @@ impl VideoBranch {
     pub fn close(&mut self, p: VideoModel, work: &mut [f64]) -> Result<(), QueueFull>
         ensures { CloseOf work.old p self.old result self.new work.new }
     {
-        if !ready(*self, p, work.len(), 0) {
+        if !self.ready(p, work.len(), 0) {
             return Ok(());
         }
-        self.units.close(layout(p).units, work)
+        self.units.close(p.layout().units, work)
     }
 
     // A packet that arrives at t and delivers d. Its events go to the slots from k on.
@@ -246,10 +250,10 @@ impl VideoBranch {
     ) -> Result<(), QueueFull>
         ensures { StepOf work.old p self.old d t k slots.old result self.new work.new slots.new }
     {
-        if !ready(*self, p, work.len(), k) {
+        if !self.ready(p, work.len(), k) {
             return Ok(());
         }
-        let m = layout(p);
+        let m = p.layout();
         self.advance(m, work, t, slots, k);
         self.deliver(m, work, d)
     }
@@ -266,10 +270,10 @@ impl VideoBranch {
     ) -> Result<(), QueueFull>
         ensures { FinishOf work.old p self.old k slots.old result self.new work.new slots.new }
     {
-        if !ready(*self, p, work.len(), k) {
+        if !self.ready(p, work.len(), k) {
             return Ok(());
         }
-        let m = layout(p);
+        let m = p.layout();
         self.units.close(m.units, work)?;
         let end = max(self.leak.proc_time, 0.0) + self.queued / m.rbx + 2.0;
         self.advance(m, work, end, slots, k);
