@@ -57,6 +57,8 @@ fn stream_at(words: &[u64; PROFILE_WORDS], i: usize) -> Option<TStdStream>
     })
 }
 
+// `slot_pids` does the same over the system PIDs. One function for both would take the reader as a closure, and its contract the two
+// definitions that each reader meets.
 #[tactic(auto, unfolding(crate::specs::Config::slots_fit, crate::specs::Config::slot_streams), using(crate::proofs::UpTo::filled_next, crate::proofs::UpTo::passes_all))]
 fn slot_streams(words: &[u64; PROFILE_WORDS], count: usize) -> Option<[TStdStream; MAX_STREAMS]>
     ensures { SomeIf (leb count max_streams && slots_fit words.now count) (slot_streams words.now count) result }

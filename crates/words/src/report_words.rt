@@ -5,12 +5,14 @@ ghost use Rattle.words.specs.Report.{figure_word, line_words, report_after};
 use crate::seconds::SecondsWord;
 use report::{Figure, TStdReport, ViolationLine};
 
-pub const REPORT_WORDS: usize = 324;
-
 // The words in front of the lines, and of a line: kind, PID, limit, bits of the decode time, figure whole or as bits.
-const HEAD_WORDS: usize = 4;
+pub const HEAD_WORDS: usize = 4;
 
-const LINE_WORDS: usize = 5;
+pub const LINE_WORDS: usize = 5;
+
+pub const LINES: usize = 64;
+
+pub const REPORT_WORDS: usize = HEAD_WORDS + LINE_WORDS * LINES;
 
 #[tactic(auto, unfolding(crate::specs::Report::figure_word))]
 fn figure_word<S: SecondsWord>(figure: Figure) -> u64
@@ -49,6 +51,7 @@ pub fn write_report<S: SecondsWord>(report: TStdReport, words: &mut [u64])
     words[1] = report.pcr_samples;
     words[2] = S::word(report.modelled_seconds);
     words[3] = report.violation_count as u64;
+    // By places, as in `write_row`.
     for (i, line) in report.violations.iter().enumerate() {
         let at = HEAD_WORDS + LINE_WORDS * i;
         words[at..at + LINE_WORDS].copy_from_slice(&line_words::<S>(*line));

@@ -31,6 +31,7 @@ pub fn write_row(figures: Figures, row: &mut [u64])
 {
     let chains = figures.rows;
     let end = figures.count.min(chains.len()).min(row.len() / ROW_WORDS);
+    // By places: over `chunks_exact_mut` the loop was tried, but behind it nothing is known of the row, and `returns` stays open.
     for i in 0..end {
         let at = ROW_WORDS * i;
         row[at..at + ROW_WORDS].copy_from_slice(&chain_words(chains[i]));
