@@ -33,10 +33,7 @@ fn present_extension(e: AdaptationFieldExtension) -> [u64; 8]
 fn extension_words(extension: Option<AdaptationFieldExtension>) -> [u64; 8]
     ensures { result ≡ extension_words extension }
 {
-    match extension {
-        Some(e) => present_extension(e),
-        None => [0; 8],
-    }
+    extension.map_or([0; 8], present_extension)
 }
 
 // Eight flags, the first with the greatest weight.
@@ -82,10 +79,7 @@ fn present_field(f: AdaptationField) -> [u64; 18]
 fn field_words(field: Option<AdaptationField>) -> [u64; 18]
     ensures { result ≡ field_words field }
 {
-    match field {
-        Some(f) => present_field(f),
-        None => [0; 18],
-    }
+    field.map_or([0; 18], present_field)
 }
 
 #[tactic(auto, unfolding(crate::specs::Packet::packet_words), using(crate::proofs::Stored::filled_behind))]

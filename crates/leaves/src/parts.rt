@@ -9,21 +9,17 @@ use packet::{ClockReference, Ltw, PrivateData, SeamlessSplice};
 pub(crate) fn clock_words(clock: Option<ClockReference>) -> (u64, u64)
     ensures { result ≡ clock_words clock }
 {
-    match clock {
-        Some(c) => (plus_one(c.base), plus_one(u64::from(c.extension))),
-        None => (0, 0),
-    }
+    clock.map_or((0, 0), |c| {
+        (plus_one(c.base), plus_one(u64::from(c.extension)))
+    })
 }
 
 // The countdown as its eight bits.
-#[tactic(auto, unfolding(crate::specs::Packet::countdown_word))]
+#[tactic(auto, unfolding(crate::specs::Packet::countdown_word), using(crate::proofs::Complement::narrow))]
 pub(crate) fn countdown_word(countdown: Option<i8>) -> u64
     ensures { result ≡ countdown_word countdown }
 {
-    match countdown {
-        Some(n) => plus_one(u64::from(n.cast_unsigned())),
-        None => 0,
-    }
+    countdown.map_or(0, |n| plus_one(u64::from(n.cast_unsigned())))
 }
 
 // Where the data begin in the packet, above by one, and their length as it is.
@@ -31,31 +27,25 @@ pub(crate) fn countdown_word(countdown: Option<i8>) -> u64
 pub(crate) fn private_words(bytes: Option<PrivateData>) -> (u64, u64)
     ensures { result ≡ private_words bytes }
 {
-    match bytes {
-        Some(data) => ((data.start as u64).wrapping_add(5), data.len as u64),
-        None => (0, 0),
-    }
+    bytes.map_or((0, 0), |data| {
+        ((data.start as u64).wrapping_add(5), data.len as u64)
+    })
 }
 
 #[tactic(auto, unfolding(crate::specs::Packet::ltw_words))]
 pub(crate) fn ltw_words(ltw: Option<Ltw>) -> (u64, u64)
     ensures { result ≡ ltw_words ltw }
 {
-    match ltw {
-        Some(ltw) => (
-            plus_one(u64::from(ltw.valid)),
-            plus_one(u64::from(ltw.offset)),
-        ),
-        None => (0, 0),
-    }
+    ltw.map_or((0, 0), |l| {
+        (plus_one(u64::from(l.valid)), plus_one(u64::from(l.offset)))
+    })
 }
 
 #[tactic(auto, unfolding(crate::specs::Packet::splice_words))]
 pub(crate) fn splice_words(splice: Option<SeamlessSplice>) -> (u64, u64)
     ensures { result ≡ splice_words splice }
 {
-    match splice {
-        Some(s) => (plus_one(u64::from(s.splice_type)), plus_one(s.dts_next_au)),
-        None => (0, 0),
-    }
+    splice.map_or((0, 0), |s| {
+        (plus_one(u64::from(s.splice_type)), plus_one(s.dts_next_au))
+    })
 }

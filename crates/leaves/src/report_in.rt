@@ -1,12 +1,14 @@
 // A report and a line read from words: four, then five for each of 64 lines.
 ghost use Rattle.std.specs.Prelude.{◌≡◌, ◌+◌, ◌≤◌, length};
+ghost use Rattle.words.specs.Report.{report_len};
 ghost use Rattle.leaves.specs.Record.{bytes_kind, violation_of, violation_at, lines_at, report_at};
 
 use crate::seconds::seconds_of;
 use report::TStdViolation::*;
 use report::{TStdReport, TStdViolation, ViolationLine};
+use words::report_words::{HEAD_WORDS, LINE_WORDS, LINES};
 
-// The kind is a number, as C hands it.
+// The kind is a number, as C hands it; any that names no kind is the last, BsysOverflow, as in the definition.
 #[tactic(auto, unfolding(crate::specs::Record::bytes_kind))]
 fn bytes_kind(kind: u64, pid: u16, limit: usize, time: f64, n: u64) -> TStdViolation
     ensures { result ≡ bytes_kind kind pid limit time n }
@@ -37,6 +39,7 @@ fn bytes_kind(kind: u64, pid: u16, limit: usize, time: f64, n: u64) -> TStdViola
     }
 }
 
+// The kinds with a figure in seconds; any other number is of `bytes_kind`.
 #[tactic(auto, unfolding(crate::specs::Record::violation_of))]
 fn violation_of(kind: u64, pid: u16, limit: usize, time: f64, figure: u64) -> TStdViolation
     ensures { result ≡ violation_of kind pid limit time figure }
@@ -68,18 +71,18 @@ pub(crate) fn violation_at(words: &[u64], at: usize) -> TStdViolation
     )
 }
 
-fn lines_at(words: &[u64]) -> [ViolationLine; 64]
-    requires { length words.now ≡ 324 }
+fn lines_at(words: &[u64]) -> [ViolationLine; LINES]
+    requires { length words.now ≡ report_len }
     ensures { result ≡ lines_at words.now }
 {
     std::array::from_fn(|i| ViolationLine {
-        violation: violation_at(words, 4 + 5 * i),
+        violation: violation_at(words, HEAD_WORDS + LINE_WORDS * i),
     })
 }
 
 #[tactic(auto, unfolding(crate::specs::Record::report_at))]
 pub(crate) fn report_at(words: &[u64]) -> TStdReport
-    requires { length words.now ≡ 324 }
+    requires { length words.now ≡ report_len }
     ensures { result ≡ report_at words.now }
 {
     TStdReport {

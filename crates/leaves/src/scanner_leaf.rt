@@ -6,7 +6,7 @@ ghost use Rattle.leaves.specs.Scanner.{stamp_in, scanner_at, scanner_words, run_
 use crate::put::{put, word_of};
 use scanner::{PesHeader, PesScanner, Runs, StampBytes};
 
-// The words of a state. They stay a slice: as an array of 15 they would be another list than the definition reads.
+// The words of a state, read from a slice by their places as the definition reads them: a pattern would name all 15.
 const STATE_WORDS: usize = 15;
 
 // The low byte: `u8::try_from` would refuse a larger word.

@@ -13,6 +13,7 @@ const QUIET: u64 = 9221120237041090560;
 pub(crate) fn seconds_of(word: u64) -> f64
     ensures { result ≡ from_bits binary64 word }
 {
+    // `&`: the proof has the test as one fact, that these are the bits of a not-a-number.
     if (word % SIGN / EXPONENT == 2047) & (word % EXPONENT != 0) {
         return f64::NAN;
     }
