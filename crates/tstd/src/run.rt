@@ -4,6 +4,7 @@ ghost use Rattle.tstd.specs.Run.{queue_full, Ready, pass_of, EndsTo, RanTo};
 
 use crate::chain::Chain;
 use crate::front::SystemChain;
+use crate::skip::Position;
 use crate::times::Times;
 use crate::{chain, front, owners, skip};
 use arrival::Intervals;
@@ -87,10 +88,11 @@ pub(crate) fn run(
             }
             (Owner::System, _) => system = front::push_system(system, times.arrival, &mut slots),
             _ => {
-                let s = skip::skip(times, &owners, bytes, layout.packet_size, at, count, k);
-                times = s.times;
-                at = s.at;
-                k = s.k;
+                let here = Position { times, at, k };
+                let last = skip::skip(here, &owners, bytes, layout.packet_size, count);
+                times = last.times;
+                at = last.at;
+                k = last.k;
             }
         }
         at += layout.packet_size;

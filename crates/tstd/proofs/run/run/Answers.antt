@@ -26,8 +26,8 @@ loop-k-preserved c =
           loop_as w.times-is w.at-is w.k-is (system_again _ c.loop-k.invariant.ready _ _ _ _ _ _ _ c.loop-k.invariant.loop c.loop-k-test.true _ _ _ c.window_at-window.ensures c.read-header.ensures _ c.pids.ensures _ (c.owner_of.ensures.owner _ c.owner_table-owners.ensures) _ (one_more _ c.requires.0) c.next-times.ensures w.in-System-default.is-0 _ _ w.push_system-system.ensures.0 w.push_system-system.ensures.1 _ _ _ _ w.work-is w.chains-is w.system-is w.slots-is)
       | in_default w ↦
           elim w.in_default.branch [
-            | in_default-via-in-Stream+in_default z ↦ loop_as w.times-is w.at-is w.k-is (skip_again _ c.loop-k.invariant.ready _ _ _ _ _ _ _ c.loop-k.invariant.loop c.loop-k-test.true _ _ _ c.window_at-window.ensures c.read-header.ensures _ c.pids.ensures _ (c.owner_of.ensures.owner _ c.owner_table-owners.ensures) _ (one_more _ c.requires.0) c.next-times.ensures (inl z.in_default.is-1) _ c.owner_table-owners.ensures w.skip-s.ensures _ _ _ _ w.work-is w.chains-is w.system-is w.slots-is)
-            | in_default-via-in_default z ↦ loop_as w.times-is w.at-is w.k-is (skip_again _ c.loop-k.invariant.ready _ _ _ _ _ _ _ c.loop-k.invariant.loop c.loop-k-test.true _ _ _ c.window_at-window.ensures c.read-header.ensures _ c.pids.ensures _ (c.owner_of.ensures.owner _ c.owner_table-owners.ensures) _ (one_more _ c.requires.0) c.next-times.ensures (inr z.in_default.is-0) _ c.owner_table-owners.ensures w.skip-s.ensures _ _ _ _ w.work-is w.chains-is w.system-is w.slots-is)
+            | in_default-via-in-Stream+in_default z ↦ loop_as w.times-is w.at-is w.k-is (skip_again _ c.loop-k.invariant.ready _ _ _ _ _ _ _ c.loop-k.invariant.loop c.loop-k-test.true _ _ _ c.window_at-window.ensures c.read-header.ensures _ c.pids.ensures _ (c.owner_of.ensures.owner _ c.owner_table-owners.ensures) _ (one_more _ c.requires.0) c.next-times.ensures (inl z.in_default.is-1) _ c.owner_table-owners.ensures w.skip-last.ensures _ _ _ _ w.work-is w.chains-is w.system-is w.slots-is)
+            | in_default-via-in_default z ↦ loop_as w.times-is w.at-is w.k-is (skip_again _ c.loop-k.invariant.ready _ _ _ _ _ _ _ c.loop-k.invariant.loop c.loop-k-test.true _ _ _ c.window_at-window.ensures c.read-header.ensures _ c.pids.ensures _ (c.owner_of.ensures.owner _ c.owner_table-owners.ensures) _ (one_more _ c.requires.0) c.next-times.ensures (inr z.in_default.is-0) _ c.owner_table-owners.ensures w.skip-last.ensures _ _ _ _ w.work-is w.chains-is w.system-is w.slots-is)
           ]
     ]
 

@@ -4,8 +4,9 @@ use Rattle.tstd.proofs.skip.skip.Goals as goal
 
 pub skip_free-requires : goal.skip_free-requires
 skip_free-requires c =
-    let p = c.requires in let s = c.skip_unparsed-u.ensures c.args.owners.now in
-    (p.0, (p.1.0, (s.at_few, (s.k_few, p.1.1.1.1))))
+    let p = c.requires in
+    let s = c.skip_unparsed-unparsed.ensures c.args.owners.now in
+    record { short = p.short; size_few = p.size_few; at_few = s.at_few; k_few = s.k_few; count_few = p.count_few }
 
 pub returns : goal.returns
-returns c = skips_then (c.skip_unparsed-u.ensures c.args.owners.now) c.skip_free.ensures
+returns c = skips_then (c.skip_unparsed-unparsed.ensures c.args.owners.now) c.skip_free.ensures

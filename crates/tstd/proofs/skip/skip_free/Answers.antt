@@ -7,4 +7,4 @@ pub loop-packet-preserved : goal.loop-packet-preserved
 loop-packet-preserved c =
     let x = c.leaves_interval.ensures c.if-leaves_interval.false in
     rw (c.max.ensures, c.min.ensures, c.next_within-b.ensures)
-    (skips_free _ _ _ _ _ _ _ c.requires.0 c.requires.1.1.1.1 c.loop-packet.invariant c.loop-packet-test.true (record { position = x.0; before = x.1 }) (rw (← c.window_at.ensures) (c.is_free.ensures c.if-not-is_free.false)))
+    (skips_free _ _ _ _ _ _ _ c.requires.short c.requires.count_few c.loop-packet.invariant c.loop-packet-test.true (record { position = x.0; before = x.1 }) (rw (← c.window_at.ensures) (c.is_free.ensures c.if-not-is_free.false)))

@@ -9,5 +9,5 @@ returns c owners =
     let few = c.unparsed_from-i.ensures.0 in
     let lesser = c.min-n.ensures in
     rw (c.begin_of.ensures, c.time_of.ensures)
-    (skips_many _ _ _ _ _ _ _ p.0 p.1.1.1.1 p.1.1.0 p.1.1.1.0 _ c.if-i-eq0.false (omega (arith, few, lesser, c.saturating_sub-left.ensures))
+    (skips_many _ _ _ _ _ _ _ p.short p.count_few p.at_few p.k_few _ c.if-i-eq0.false (omega (arith, few, lesser, c.saturating_sub-left.ensures))
     (λ j h. c.packets_within.ensures j (omega (arith, h, few, lesser))) c.unparsed_from-i.ensures.1)
