@@ -16,7 +16,7 @@ use Rattle.scanner.specs.declared.PesScanner.{PesScanner}
 use Rattle.std.specs.Prelude.{Option, Some, None}
 use Rattle.std.specs.Option.{is_some}
 use Rattle.branch.specs.declared.AccessUnit.{AccessUnit}
-use Rattle.rows.specs.Rows.{Kept, held, tb_floats, main_floats, main_counts, video_floats, video_counts, scanner_bytes, tb_in, main_in, video_in, scanner_in, read_tb, read_main, read_video, read_scanner, stored_tb, stored_main_floats, stored_main_counts, stored_video_floats, stored_video_counts, stored_scanner, OnlyTb, OnlyMain, OnlyVideo, OnlyScanner}
+use Rattle.rows.specs.Rows.{Kept, held, tb_floats, main_floats, main_counts, video_floats, video_counts, scanner_bytes, tb_in, main_in, video_in, scanner_in, read_tb, read_main, read_video, read_scanner, stored_tb, stored_main_floats, stored_main_counts, stored_video_floats, stored_video_counts, stored_scanner, OnlyTb, OnlyPart, OnlyMain, OnlyVideo, OnlyScanner}
 use Rattle.branch.specs.Stores.{store_from}
 use Rattle.branch.proofs.Stores.{stores_length, stores_other, stores_at}
 
@@ -91,6 +91,15 @@ kept_by : {A : Type 0} {d : A} {lo hi : ℕ} {l v : List A} (t : Bool) → Kept 
 kept_by true k = k
 kept_by false k = record { size = refl; same = λ i h. refl }
 
+-- floats and counts that are both stored, or neither
+part_only : (f k : ℕ) (xs : List Float) (ys : List ℕ) (i : ℕ) (l : List Float) (n : List ℕ) →
+    OnlyPart f (f + length xs) k (k + length ys) i l (cond (ltb i 8) (store_from l (32 * i) f xs) l) n (cond (ltb i 8) (store_from n (16 * i) k ys) n)
+part_only f k xs ys i l n =
+    record {
+      floats = kept_by (ltb i 8) (stores_kept nan l (32 * i) f xs _ _ refl (omega arith));
+      counts = kept_by (ltb i 8) (stores_kept 0 n (16 * i) k ys _ _ refl (omega arith));
+    }
+
 module _ (i : ℕ) where
   pub tb_only : (t : FluidFifo) (l : List Float) → OnlyTb i l (stored_tb l i t)
   unfolding stored_tb
@@ -98,19 +107,11 @@ module _ (i : ℕ) where
 
   pub main_only : (b : MainBranch) (l : List Float) (n : List ℕ) → OnlyMain i l (stored_main_floats l i b) n (stored_main_counts n i b)
   unfolding stored_main_floats stored_main_counts
-  main_only b l n =
-      record {
-        floats = kept_by (ltb i 8) (stores_kept nan l (32 * i) 5 (main_floats b) _ _ (omega arith) (omega arith));
-        counts = kept_by (ltb i 8) (stores_kept 0 n (16 * i) 0 (main_counts b) _ _ (omega arith) (omega arith));
-      }
+  main_only b l n = part_only 5 0 (main_floats b) (main_counts b) i l n
 
   pub video_only : (b : VideoBranch) (l : List Float) (n : List ℕ) → OnlyVideo i l (stored_video_floats l i b) n (stored_video_counts n i b)
   unfolding stored_video_floats stored_video_counts
-  video_only b l n =
-      record {
-        floats = kept_by (ltb i 8) (stores_kept nan l (32 * i) 13 (video_floats b) _ _ (omega arith) (omega arith));
-        counts = kept_by (ltb i 8) (stores_kept 0 n (16 * i) 6 (video_counts b) _ _ (omega arith) (omega arith));
-      }
+  video_only b l n = part_only 13 6 (video_floats b) (video_counts b) i l n
 
   pub scanner_only : (s : PesScanner) (l : List ℕ) → OnlyScanner i l (stored_scanner l i s)
   unfolding stored_scanner

@@ -235,15 +235,18 @@ pub record Kept {A : Type 0} (d : A) (lo hi : ℕ) (l v : List A) : Type 0 where
 abbrev pub OnlyTb : ℕ → List Float → List Float → Type 0
 OnlyTb i l v = Kept nan (32 * i) (32 * i + 5) l v
 
+-- nothing but the floats of chain i from place f to f', and its counts from k to k'
+pub record OnlyPart (f f' k k' : ℕ) (i : ℕ) (l v : List Float) (n o : List ℕ) : Type 0 where
+  pub floats : Kept nan (32 * i + f) (32 * i + f') l v
+  pub counts : Kept 0 (16 * i + k) (16 * i + k') n o
+
 -- nothing but its main branch
-pub record OnlyMain (i : ℕ) (l v : List Float) (n o : List ℕ) : Type 0 where
-  pub floats : Kept nan (32 * i + 5) (32 * i + 13) l v
-  pub counts : Kept 0 (16 * i) (16 * i + 6) n o
+abbrev pub OnlyMain : ℕ → List Float → List Float → List ℕ → List ℕ → Type 0
+OnlyMain i l v n o = OnlyPart 5 13 0 6 i l v n o
 
 -- nothing but its video branch
-pub record OnlyVideo (i : ℕ) (l v : List Float) (n o : List ℕ) : Type 0 where
-  pub floats : Kept nan (32 * i + 13) (32 * i + 28) l v
-  pub counts : Kept 0 (16 * i + 6) (16 * i + 14) n o
+abbrev pub OnlyVideo : ℕ → List Float → List Float → List ℕ → List ℕ → Type 0
+OnlyVideo i l v n o = OnlyPart 13 28 6 14 i l v n o
 
 -- nothing but its scanner
 abbrev pub OnlyScanner : ℕ → List ℕ → List ℕ → Type 0

@@ -29,7 +29,7 @@ impl Rows {
     }
 
     // Ruled out: removed and required exchanged; another chain's numbers written.
-    #[tactic(auto, unfolding(crate::specs::Rows::stored_main_floats, crate::specs::Rows::stored_main_counts, branch::specs::Stores::store_from))]
+    #[tactic(auto, unfolding(crate::specs::Rows::stored_main_floats, crate::specs::Rows::stored_main_counts))]
     pub fn set_main(&mut self, i: usize, m: MainBranch)
         ensures { self.new ≡ rows_of (stored_main_floats self.old.floats i m) (stored_main_counts self.old.counts i m) self.old.bytes }
     {

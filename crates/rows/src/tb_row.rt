@@ -25,7 +25,7 @@ impl Rows {
     }
 
     // Ruled out: a store one place off; another chain's floats written.
-    #[tactic(auto, unfolding(crate::specs::Rows::stored_tb, branch::specs::Stores::store_from))]
+    #[tactic(auto, unfolding(crate::specs::Rows::stored_tb))]
     pub fn set_tb(&mut self, i: usize, t: FluidFifo)
         ensures { self.new ≡ rows_of (stored_tb self.old.floats i t) self.old.counts self.old.bytes }
     {
