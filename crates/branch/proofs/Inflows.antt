@@ -2,7 +2,7 @@
 use Prim.Native.Nat.{ℕ, ◌+◌, ◌≤◌, ◌<◌}
 use mathlib.Core.Path.{◌≡◌, refl, sym, ap, ◌∙◌}
 use mathlib.Core.Bool.{Bool, true, false}
-use mathlib.Core.List.{List, [], ◌∷◌}
+use mathlib.Core.List.{List, ◌∷◌}
 use native.Mathlib.Omega.{arith}
 use lib.Ieee.{Float, lt, le}
 use Rattle.ieee.specs.Binary64.{◌⊕◌, ◌⊖◌, ◌⊗◌, ◌⊘◌, 0f, -∞}
@@ -14,7 +14,7 @@ use Rattle.std.specs.Prelude.{⊤, Option, Some, None, Result, Ok, is_err}
 use Rattle.branch.specs.declared.QueueFull.{QueueFull}
 use Rattle.branch.specs.Queue.{Lies, place_of, floats_at, pop_def, PushedTo}
 use Rattle.branch.specs.CumulativeIn.{Inflow, settle, arrived_by, fraction, total_of, bytes_from, time_from, front_time, time_of_cumulative, push_run, run_refused}
-use Rattle.branch.specs.InflowInWork.{run_of, runs_of, inflow_of, SettledTo, RunPushedTo}
+use Rattle.branch.specs.InflowInWork.{run_of, floats_of_run, runs_of, inflow_of, SettledTo, RunPushedTo}
 use Rattle.branch.proofs.Rings.{popped, lies_popped, no_entries_lem, count_entries, floats_local, Walking, walk_next, walk_stop, walk_end, push_room, push_refused, push_adds, push_lies, push_outside, outside_refl}
 use Rattle.branch.proofs.Settling.{inflow, settle_spent, settle_left, settle_none}
 
@@ -129,9 +129,6 @@ module _ (w : List Float) (p : Place) (c : CumulativeIn) (target : Float) where
 pub run_empty : (w : List Float) (p : Place) (c : CumulativeIn) (run : Run) → Lies 3 w p c.runs → lt 0f run.bytes ≡ false → RunPushedTo w p c run (Ok tt) c w
 unfolding run_refused push_run
 run_empty w p c run l e = record { lies = l; outside = outside_refl _ _ w; full = simp e; refused = λ f. (refl, refl); taken = λ f. simp e }
-
-abbrev pub floats_of_run : Run → List Float
-floats_of_run r = r.t0 ∷ (r.t1 ∷ (r.bytes ∷ []))
 
 module _ (w v : List Float) (p : Place) (c : CumulativeIn) (run : Run) (lies : Lies 3 w p c.runs) (r : Result ⊤ QueueFull) (q : Ring) (e : lt 0f run.bytes ≡ true) (m : PushedTo 3 w p c.runs (floats_of_run run) r q v) where
   abbrev taken : CumulativeIn

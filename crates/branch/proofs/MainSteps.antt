@@ -7,6 +7,7 @@ use native.Mathlib.Omega.{arith}
 use lib.ListN.{length}
 use lib.Ieee.{Float}
 use borrow.Author.Tests.{ltb-true, leb-true, lt-ltb, le-leb}
+use Rattle.std.proofs.lemmas.Bool.{and_parts}
 use Rattle.ieee.specs.Binary64.{+∞}
 use Rattle.events.specs.declared.Slots.{Slots}
 use Rattle.events.specs.Slots.{noted_all}
@@ -25,7 +26,7 @@ use Rattle.branch.specs.Units.{close_units}
 use Rattle.branch.specs.UnitsInWork.{unit_at, waiting_of, UnitsTo}
 use Rattle.branch.specs.MainInWork.{new_branch, no_entries, runs_place, units_place, main_of, BranchLies, ready, DrainedTo, FedTo, SteppedTo, Unchanged, StepOf, FinishOf, CloseOf}
 use Rattle.branch.proofs.UnitCounts.{close_twice}
-use Rattle.branch.proofs.Rings.{both, ring_fits, lying_fits, no_entries_lem}
+use Rattle.branch.proofs.Rings.{ring_fits, lying_fits, no_entries_lem}
 use Rattle.branch.proofs.Feeding.{units_closed}
 
 -- ---- the test
@@ -38,10 +39,10 @@ pub record Ready (w : List Float) (p : MainModel) (b : MainBranch) (k : ℕ) : T
 pub ready_lies : (w : List Float) (p : MainModel) (b : MainBranch) (k : ℕ) → ready (length w) p b k ≡ true → Ready w p b k
 unfolding ready
 ready_lies w p b k e =
-    let e1 = both _ _ e in
-    let e2 = both _ _ e1.0 in
-    let e3 = both _ _ e2.0 in
-    let e4 = both _ _ e3.0 in
+    let e1 = and_parts _ _ e in
+    let e2 = and_parts _ _ e1.0 in
+    let e3 = and_parts _ _ e2.0 in
+    let e4 = and_parts _ _ e3.0 in
     let room : p.base + 6 * p.depth ≤ length w = leb-true _ _ e4.0 in
     record {
       lies = record { runs = ring_fits 3 w (runs_place p) b.inflow.runs (omega arith) e4.1; pending = ring_fits 3 w (units_place p) b.units.pending (omega arith) e3.1 };

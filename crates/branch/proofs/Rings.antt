@@ -2,7 +2,7 @@
 -- the first away, and a store elsewhere changes none.
 use Prim.Native.Nat.{ℕ, zero, suc, ◌+◌, ◌-◌, ◌*◌, ◌≤◌, ◌<◌}
 use mathlib.Core.Path.{◌≡◌, refl, sym, ap, ◌∙◌}
-use mathlib.Core.Bool.{◌&&◌, Bool, true, false, true≢false}
+use mathlib.Core.Bool.{Bool, true, false}
 use mathlib.Core.List.{List, [], ◌∷◌, ◌++◌}
 use mathlib.Core.Logic.{◌⊎◌, ◌≢◌, inl, inr, ⊎_elim}
 use native.Mathlib.Omega.{arith}
@@ -13,6 +13,7 @@ use lib.Seq.{drop-cons, drop-append_seam, take-append_seam}
 use lib.Dec.{ltb, eqb}
 use lib.Ieee.{Float, nan}
 use borrow.Author.Tests.{lt-ltb, le-leb, leb-true, ltb-true, ltb-false, eqb-true, eqb-false, eq-eqb, ne_eqb}
+use Rattle.std.proofs.lemmas.Bool.{and_parts}
 use Rattle.branch.specs.declared.QueueFull.{QueueFull}
 use Rattle.branch.specs.declared.queue.Place.{Place}
 use Rattle.branch.specs.declared.queue.Ring.{Ring}
@@ -205,13 +206,9 @@ module _ {A X : Type 0} {n : ℕ} {at : List Float → ℕ → A} {F : List A �
 
 -- ---- the test of a ring
 
-pub both : (x y : Bool) → x && y ≡ true → (x ≡ true) × (y ≡ true)
-both true y e = (refl, e)
-both false y e = absurd (true≢false (sym e))
-
 pub ring_fits : (n : ℕ) (w : List Float) (p : Place) (q : Ring) → p.base + n * p.depth ≤ length w → fits q p.depth ≡ true → Lies n w p q
 ring_fits n w p q h e =
-    let t = both _ _ e in
+    let t = and_parts _ _ e in
     record { inside = ltb-true _ _ t.0; some = leb-true _ _ t.1; room = h }
 
 pub lying_fits : {n : ℕ} {w : List Float} {p : Place} {q : Ring} → Lies n w p q → fits q p.depth ≡ true

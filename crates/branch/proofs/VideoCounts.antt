@@ -1,6 +1,6 @@
 -- How many units a video branch has removed or has pending: a step adds one at most. So the count of removed units stays small.
 use Prim.Native.Nat.{ℕ, suc, ◌+◌, ◌≤◌}
-use mathlib.Core.Path.{◌≡◌, refl, ◌∙◌}
+use mathlib.Core.Path.{◌≡◌, refl}
 use mathlib.Core.Bool.{Bool, true, false, ◌&&◌, ◌||◌}
 use mathlib.Core.List.{List, [], ◌∷◌}
 use native.Mathlib.Omega.{arith}
@@ -15,8 +15,9 @@ use Rattle.branch.specs.declared.Delivered.{Delivered}
 use Rattle.branch.specs.CumulativeIn.{run_refused}
 use Rattle.branch.specs.MainBranch.{stamp_of}
 use Rattle.branch.specs.VideoBranch.{VideoRates, Video, remove_unit, advance_from, advance, drain_time, finish_video, push_video}
-use Rattle.branch.specs.VideoStep.{VideoChain, VideoFed, and_then, waiting, close_au, open_unit, add_run, deliver, packet_step, end_step, video_step}
+use Rattle.branch.specs.VideoStep.{VideoChain, VideoFed, VideoStep, and_then, waiting, close_au, open_unit, add_run, deliver, packet_step, end_step, video_step}
 use Rattle.branch.proofs.VideoAdvance.{leaked}
+use Rattle.branch.proofs.UnitCounts.{either}
 use Rattle.branch.proofs.UnitCounts as unit-counts
 
 abbrev pub units_in : Video → ℕ
@@ -50,53 +51,32 @@ open_counts : (depth : ℕ) (o : Option AccessUnit) (c : VideoChain) → units_i
 unfolding open_unit
 open_counts depth o c = unit-counts.open_counts depth o (waiting c)
 
--- a refusal or what follows
-then_by : (x : VideoFed) (g : VideoChain → VideoFed) (b : Bool) → x.full ≡ b → ((c : VideoChain) → units_in (g c).chain.branch ≡ units_in c.branch) → units_in (and_then x g).chain.branch ≡ units_in x.chain.branch
-unfolding and_then
-then_by x g true e h = simp e
-then_by x g false e h = simp e (h x.chain)
-
-then_counts : (x : VideoFed) (g : VideoChain → VideoFed) → ((c : VideoChain) → units_in (g c).chain.branch ≡ units_in c.branch) → units_in (and_then x g).chain.branch ≡ units_in x.chain.branch
-then_counts x g h = then_by x g x.full refl h
-
 -- a run adds none
-run_by : (depth : ℕ) (header : Bool) (r : Run) (c : VideoChain) (a b : Bool) → le r.bytes 0f ≡ a
-    → run_refused depth c.branch.leak.mb_in r || (header && eqb (length c.branch.leak.flow.marks) depth) ≡ b → units_in (add_run depth header r c).chain.branch ≡ units_in c.branch
-unfolding add_run push_video
-run_by depth header r c true b e f = simp e
-run_by depth header r c false true e f = simp (e, f)
-run_by depth header r c false false e f = simp (e, f)
+abbrev AtMost : ℕ → VideoFed → Type 0
+AtMost n f = units_in f.chain.branch ≤ n
 
-run_counts : (depth : ℕ) (header : Bool) (r : Run) (c : VideoChain) → units_in (add_run depth header r c).chain.branch ≡ units_in c.branch
-run_counts depth header r c = run_by depth header r c _ _ refl refl
+push_counts : (v : Video) (r : Run) (header : Bool) (n : ℕ) → units_in v ≤ n → units_in (push_video v r header) ≤ n
+unfolding push_video
+push_counts v r header n h = either (λ (x : Video). units_in x ≤ n) (le r.bytes 0f) _ _ h h
 
-module _ (depth : ℕ) (d : Delivered) where
-  abbrev body : VideoChain → VideoFed
-  body = add_run depth false d.body
+run_counts : (depth : ℕ) (header : Bool) (r : Run) (n : ℕ) (c : VideoChain) → units_in c.branch ≤ n → units_in (add_run depth header r c).chain.branch ≤ n
+unfolding add_run
+run_counts depth header r n c h =
+    let x : units_in (push_video c.branch r header) ≤ n = push_counts c.branch r header n h in
+    either (AtMost n) (le r.bytes 0f) _ _ h (either (AtMost n) (run_refused depth c.branch.leak.mb_in r || (header && eqb (length c.branch.leak.flow.marks) depth)) _ _ h x)
 
-  abbrev rest : VideoChain → VideoFed
-  rest o = and_then (add_run depth true d.rest o) body
+deliver_counts : (depth : ℕ) (d : Delivered) (c : VideoChain) → units_in (deliver depth d c).chain.branch ≤ units_in c.branch + 1
+unfolding deliver and_then
+deliver_counts depth d c =
+    let n = units_in c.branch + 1 in
+    unit-counts.deliver_counts (λ (x : VideoChain). units_in x.branch) (λ (f : VideoFed). f.chain) (λ (f : VideoFed). f.full) n (open_unit depth (stamp_of d) c) (add_run depth true d.head) (add_run depth true d.rest) (add_run depth false d.body) (open_counts depth (stamp_of d) c) (run_counts depth true d.head n) (run_counts depth true d.rest n) (run_counts depth false d.body n)
 
-  abbrev head : VideoChain → VideoFed
-  head n = and_then (add_run depth true d.head n) rest
-
-  rest_counts : (c : VideoChain) → units_in (rest c).chain.branch ≡ units_in c.branch
-  rest_counts c = then_counts (add_run depth true d.rest c) body (run_counts depth false d.body) ∙ run_counts depth true d.rest c
-
-  head_counts : (c : VideoChain) → units_in (head c).chain.branch ≡ units_in c.branch
-  head_counts c = then_counts (add_run depth true d.head c) rest rest_counts ∙ run_counts depth true d.head c
-
-  deliver_counts : (c : VideoChain) → units_in (deliver depth d c).chain.branch ≤ units_in c.branch + 1
-  unfolding deliver
-  deliver_counts c = rw (then_counts (open_unit depth (stamp_of d) c) head head_counts) (open_counts depth (stamp_of d) c)
-
-end_by : (r : VideoRates) (f : VideoFed) (b : Bool) → f.full ≡ b → units_in (end_step r f).chain.branch ≡ units_in f.chain.branch
+end_counts : (r : VideoRates) (f : VideoFed) (n : ℕ) → units_in f.chain.branch ≤ n → units_in (end_step r f).chain.branch ≤ n
 unfolding end_step
-end_by r f true e = simp e
-end_by r f false e = simp e (finish_counts r f.chain.branch)
+end_counts r f n h = let g = finish_counts r f.chain.branch in either (λ (s : VideoStep). units_in s.chain.branch ≤ n) f.full _ _ h (omega arith)
 
 -- a step adds one at most
 pub step_counts : (r : VideoRates) (depth : ℕ) (d : Delivered) (end : Bool) (t : Float) (c : VideoChain) → units_in (video_step r depth d end t c).chain.branch ≤ units_in c.branch + 1
 unfolding video_step packet_step
-step_counts r depth d true t c = rw (end_by r (close_au depth c) (close_au depth c).full refl) (close_counts depth c)
+step_counts r depth d true t c = end_counts r (close_au depth c) (units_in c.branch + 1) (close_counts depth c)
 step_counts r depth d false t c = rw (← advance_counts r t c.branch) (deliver_counts depth d (record { branch = (advance r t c.branch).branch; open_au = c.open_au }))

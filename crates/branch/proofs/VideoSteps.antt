@@ -7,6 +7,7 @@ use native.Mathlib.Omega.{arith}
 use lib.ListN.{length}
 use borrow.Author.Tests.{ltb-true, leb-true, lt-ltb, le-leb}
 use lib.Ieee.{Float, lt}
+use Rattle.std.proofs.lemmas.Bool.{and_parts}
 use Rattle.ieee.specs.Binary64.{◌⊕◌, ◌⊘◌, 0f, 1f, 2f, 1e-6f}
 use Rattle.ieee.specs.MaxMin.{max_of}
 use Rattle.events.specs.Event.{when, mb_busy}
@@ -24,7 +25,7 @@ use Rattle.branch.specs.VideoBranch.{VideoRates, Video, advance, drain_time, fin
 use Rattle.branch.specs.VideoStep.{VideoChain, new_video, waiting, queued_to, close_au, deliver, packet_step, end_step, video_step}
 use Rattle.branch.specs.VideoInWork.{rates_of, leak_of, flow_of, video_of, VideoLies, chain_of, Apart, VideoFedTo, AdvancedTo, layout_of, ready, SteppedTo, new_branch}
 use Rattle.branch.proofs.UnitCounts.{close_twice}
-use Rattle.branch.proofs.Rings.{both, ring_fits, lying_fits}
+use Rattle.branch.proofs.Rings.{ring_fits, lying_fits}
 
 -- ---- the branch before the first packet
 
@@ -142,11 +143,11 @@ pub record Ready (w : List Float) (p : VideoModel) (b : VideoBranch) (k : ℕ) :
 pub ready_is : (w : List Float) (p : VideoModel) (b : VideoBranch) (k : ℕ) → ready (length w) p b k ≡ true → Ready w p b k
 unfolding ready
 ready_is w p b k h =
-    let q1 = both _ _ h in
-    let q2 = both _ _ q1.0 in
-    let q3 = both _ _ q2.0 in
-    let q4 = both _ _ q3.0 in
-    let q5 = both _ _ q4.0 in
+    let q1 = and_parts _ _ h in
+    let q2 = and_parts _ _ q1.0 in
+    let q3 = and_parts _ _ q2.0 in
+    let q4 = and_parts _ _ q3.0 in
+    let q5 = and_parts _ _ q4.0 in
     let room = leb-true _ _ q5.0 in
     let m = layout_of p in
     record {
