@@ -15,8 +15,8 @@ use events::{EventKind, Slots};
 use ieee::{max, min};
 
 // The rate Rbxn in bytes a second, the sizes MBSn and EBSn in bytes, and where the three rings stand in the work. The work is handed on
-// beside it: C lends one work for all chains, which a struct here would hold for the whole replay, and a state is copied without it. So
-// the clauses LeakLies, VideoLies and Apart say where the rings lie.
+// beside it (see Place), so the clauses LeakLies, VideoLies and Apart say where the rings lie. The slots are handed on beside k (see
+// MainModel).
 #[derive(Clone, Copy)]
 pub struct VideoLayout {
     pub rbx: f64,

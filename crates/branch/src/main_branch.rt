@@ -10,8 +10,9 @@ use crate::{AccessUnit, Delivered, QueueFull, Run};
 use events::{EventKind, Slots};
 
 // What does not change: BSn in bytes, and where the chain's part of the work begins, with the depth of its two rings. The work is handed
-// on beside it, since one work is lent for all chains (see Place); so the clause BranchLies says where the rings lie. The slots are
-// handed on beside k, where those of the chain begin: one Slots counts the events of all chains in one order.
+// on beside it (see Place), so the clause BranchLies says where the rings lie. The slots are handed on beside k, where those of the chain
+// begin, since one Slots counts the events of all chains in one order; a view of both, with the `&mut Slots` in it, would make each clause
+// say `slots.old.slots.now` where it says `slots.old`.
 #[derive(Clone, Copy)]
 pub struct MainModel {
     pub buffer_size: f64,

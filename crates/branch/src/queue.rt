@@ -5,8 +5,9 @@ ghost use Rattle.branch.specs.Queue.{Lies, fits, slot_of, place_of, floats_at, p
 
 use crate::QueueFull;
 
-// Where a ring stands in the work: the same for a whole replay. The work is handed on beside ring and place: C lends one work for all
-// chains, which a struct here would hold for the whole replay, and a state is copied without it. So the clause Lies says where a ring lies.
+// Where a ring stands in the work: the same for a whole replay. Ring, place and work are handed on apart. A view of the three for one call
+// would be no plainer: each caller would build it of the same three, a push would need a second view, of `&mut` work, and `settle`, which
+// pops while it reads, the ring beside the view. So the clause Lies says where a ring lies.
 #[derive(Clone, Copy)]
 pub struct Place {
     pub base: usize,

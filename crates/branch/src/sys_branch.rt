@@ -6,7 +6,8 @@ ghost use Rattle.branch.specs.SysBranch.{new_sys, rsys_of, since as sinceDef, id
 use crate::Run;
 use events::{EventKind, Slots};
 
-// The time of the last byte is -infinity before the first run: floats alone, no Option.
+// The time of the last byte is -infinity before the first run, as in the definition `since`. The slots are handed on beside k (see
+// MainModel).
 #[derive(Clone, Copy)]
 pub struct SysBranch {
     pub fullness: f64,

@@ -14,8 +14,8 @@ use events::{EventKind, Slots};
 use ieee::{max, min};
 
 // What does not change: the rate Rbxn in bytes a second, the sizes MBSn and EBSn in bytes, and where the chain's part of the work begins,
-// with the depth of its three rings. The slots are handed on beside k, where those of the chain begin: one Slots counts the events of all
-// chains in one order.
+// with the depth of its three rings. Work and slots are handed on beside it, the slots beside k, where those of the chain begin: as for
+// MainModel.
 #[derive(Clone, Copy)]
 pub struct VideoModel {
     pub rbx: f64,
