@@ -35,7 +35,8 @@ use Rattle.bounds.proofs.Leak.{closed_running, finite_not_inf, full_at, ran_runn
 use Rattle.bounds.proofs.Running.{Reach, running_mono}
 use Rattle.bounds.proofs.Take.{min_fits}
 use Rattle.bounds.proofs.Transfer.{eb_held, eb_in}
-use Rattle.events.specs.Event.{overflow, underflow, when}
+use Rattle.events.specs.declared.Event.TheVariants.{Overflow, Underflow}
+use Rattle.events.specs.Event.{when}
 
 zero_float_units : (y : Float) → y ≡ 0f → (x : ℕ) → pos_units binary64 y ≤ x
 unfolding of_bits pos_units
@@ -62,10 +63,10 @@ module _ {n A L : ℕ} (w : Reach n A L) (r : VideoRates) (t : Float) (g : Rates
   until_leak {e} h s (inl q) = simp (unstarted_eq s q.time) (running_mono 0 (e + 1) zero-le (started_running s q))
   until_leak {e} h s (inr q) = simp (finite_not_inf s.proc_time (in_finite q.time)) (closed_running w r t g c f (ran r t s) h (ran_running w r t g c f h s q))
 
-  overflow_in_lem : {e : ℕ} → e ≤ turn_limit → (s : Leak) → Running n L e s → EventsIn (when (lt (r.mb_size ⊕ 1f) (mb_fullness s t)) (overflow (mb_fullness s t)))
+  overflow_in_lem : {e : ℕ} → e ≤ turn_limit → (s : Leak) → Running n L e s → EventsIn (when (lt (r.mb_size ⊕ 1f) (mb_fullness s t)) (Overflow (mb_fullness s t)))
   unfolding of_bits add le lt eq
   overflow_in_lem h s q =
-      events_when (lt (r.mb_size ⊕ 1f) (mb_fullness s t)) (overflow (mb_fullness s t))
+      events_when (lt (r.mb_size ⊕ 1f) (mb_fullness s t)) (Overflow (mb_fullness s t))
       (λ (z : lt (r.mb_size ⊕ 1f) (mb_fullness s t) ≡ true). over_in (add_in binary64 zero_float (plain (2 ^ 31)) g.mb (closed_in (plain 1) 1f (plain 1) tt) tt) (full_at w r t g c f s h q) z)
 
   pub until_events : {e : ℕ} → e + 1 ≤ turn_limit → (s : Leak) → Unstarted n s ⊎ Running n L e s → EventsIn (leak_events r t s)
@@ -207,7 +208,7 @@ module _ {L n q p a A : ℕ} (w : Reach n A L) (latest : latest_time ≤ A) (cal
     removal_events_lem =
         let s = leak_until r u.decode_time v.leak in
         events_append
-        (events_when (lt (s.flow.eb_in ⊕ 1f) (v.eb_required ⊕ u.bytes)) (underflow u.decode_time ((v.eb_required ⊕ u.bytes) ⊖ s.flow.eb_in))
+        (events_when (lt (s.flow.eb_in ⊕ 1f) (v.eb_required ⊕ u.bytes)) (Underflow u.decode_time ((v.eb_required ⊕ u.bytes) ⊖ s.flow.eb_in))
         (λ (e : lt (s.flow.eb_in ⊕ 1f) (v.eb_required ⊕ u.bytes) ≡ true).
         (i.decode, missing_in b.few (calls_few v b calls) s leak_then (v.eb_required ⊕ u.bytes) (b.removed + k) whole few_whole (add-fits binary64 v.eb_required u.bytes) e)))
         (delay_in i)

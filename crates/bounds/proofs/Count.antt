@@ -12,7 +12,9 @@ use Rattle.branch.specs.VideoBranch.{Advanced, Leak, Video, VideoRates, advance,
 use Rattle.branch.specs.declared.AccessUnit.{AccessUnit}
 use Rattle.bounds.specs.Events.{FewEvents}
 use Rattle.bounds.proofs.Advance.{leaked_to}
-use Rattle.events.specs.Event.{Event, delay, mb_busy, overflow, underflow, when}
+use Rattle.events.specs.declared.Event.{Event}
+use Rattle.events.specs.declared.Event.TheVariants.{Overflow, Underflow, Delay, MbBusy}
+use Rattle.events.specs.Event.{when}
 
 pub record AtMost (n : ℕ) (es : List Event) : Type 0 where
   pub few : length es ≤ n
@@ -29,17 +31,17 @@ leak_few : (r : VideoRates) (t : Float) (s : Leak) → AtMost 1 (leak_events r t
 unfolding leak_events
 leak_few r t s = go (eq s.proc_time -∞)
   where
-    go : (b : Bool) → AtMost 1 (cond b [] (when (lt (r.mb_size ⊕ 1f) (mb_fullness (ran r t s) t)) (overflow (mb_fullness (ran r t s) t))))
+    go : (b : Bool) → AtMost 1 (cond b [] (when (lt (r.mb_size ⊕ 1f) (mb_fullness (ran r t s) t)) (Overflow (mb_fullness (ran r t s) t))))
     go true = record { few = zero-le }
-    go false = at_most_when (lt (r.mb_size ⊕ 1f) (mb_fullness (ran r t s) t)) (overflow (mb_fullness (ran r t s) t))
+    go false = at_most_when (lt (r.mb_size ⊕ 1f) (mb_fullness (ran r t s) t)) (Overflow (mb_fullness (ran r t s) t))
 
 removal_few : (v : Video) (u : AccessUnit) → AtMost 2 (remove_events v u)
 unfolding remove_events
 removal_few v u =
     let missing = (v.eb_required ⊕ u.bytes) ⊖ v.leak.flow.eb_in in
     let age = u.decode_time ⊖ u.first_input_time in
-    at_most_append (at_most_when (lt (v.leak.flow.eb_in ⊕ 1f) (v.eb_required ⊕ u.bytes)) (underflow u.decode_time missing))
-    (at_most_when (lt (1f ⊕ 1e-6f) age) (delay u.decode_time age))
+    at_most_append (at_most_when (lt (v.leak.flow.eb_in ⊕ 1f) (v.eb_required ⊕ u.bytes)) (Underflow u.decode_time missing))
+    (at_most_when (lt (1f ⊕ 1e-6f) age) (Delay u.decode_time age))
 
 pub no_unit_lem : {k n : ℕ} {es : List Event} → AtMost k es → FewEvents k n es n
 no_unit_lem {k} {n} {es} h = record { few = less (length es) k n h.few }
@@ -82,4 +84,4 @@ pub finish_video_few : (r : VideoRates) (v : Video) → FewEvents 2 v.units (fin
 unfolding finish_video
 finish_video_few r v =
     let longest = (advance r (drain_time r v) v).branch.leak.longest_busy in
-    one_event (advance_few r (drain_time r v) v) (at_most_when (lt (1f ⊕ 1e-6f) longest) (mb_busy longest))
+    one_event (advance_few r (drain_time r v) v) (at_most_when (lt (1f ⊕ 1e-6f) longest) (MbBusy longest))

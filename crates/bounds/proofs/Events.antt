@@ -12,7 +12,9 @@ use Rattle.ieee.proofs.Order.{le_trans as fl-trans, lt→le, to_t}
 use Rattle.branch.specs.declared.AccessUnit.{AccessUnit}
 use Rattle.bounds.specs.Events.{EventIn, EventsIn, an_event, delay_limit, no_events}
 use Rattle.bounds.specs.Units.{UnitIs, Units, a_unit, no_units}
-use Rattle.events.specs.Event.{Event, delay, when}
+use Rattle.events.specs.declared.Event.{Event}
+use Rattle.events.specs.declared.Event.TheVariants.{Delay}
+use Rattle.events.specs.Event.{when}
 
 pub events_append : {xs ys : List Event} → EventsIn xs → EventsIn ys → EventsIn (xs ++ ys)
 events_append no_events q = q
@@ -46,8 +48,8 @@ unfolding sub add neg le lt eq
 age_in q = sub_in binary64 (minus (2 ^ 18)) (plain delay_limit) q.decode q.first_input tt
 
 pub delay_in : {u : AccessUnit} {k : ℕ} → UnitIs u k
-    → EventsIn (when (lt (1f ⊕ 1e-6f) (u.decode_time ⊖ u.first_input_time)) (delay u.decode_time (u.decode_time ⊖ u.first_input_time)))
+    → EventsIn (when (lt (1f ⊕ 1e-6f) (u.decode_time ⊖ u.first_input_time)) (Delay u.decode_time (u.decode_time ⊖ u.first_input_time)))
 unfolding of_bits add le lt eq
 delay_in {u} q =
-    events_when (lt (1f ⊕ 1e-6f) (u.decode_time ⊖ u.first_input_time)) (delay u.decode_time (u.decode_time ⊖ u.first_input_time))
+    events_when (lt (1f ⊕ 1e-6f) (u.decode_time ⊖ u.first_input_time)) (Delay u.decode_time (u.decode_time ⊖ u.first_input_time))
     (λ (e : lt (1f ⊕ 1e-6f) (u.decode_time ⊖ u.first_input_time) ≡ true). (q.decode, over_in (closed_in zero_float (1f ⊕ 1e-6f) (plain 2) tt) (age_in q) e))

@@ -19,7 +19,8 @@ use Rattle.bounds.specs.Main.{MainBounded}
 use Rattle.bounds.specs.Runs.{byte_limit, longest_window}
 use Rattle.bounds.specs.Sys.{SysBounded}
 use Rattle.bounds.specs.Video.{Running, Unstarted, VideoIn, eb_peak_limit}
-use Rattle.events.specs.Event.{Event, delay, mb_busy, overflow, tb_busy, tb_overflow, underflow}
+use Rattle.events.specs.declared.Event.{Event}
+use Rattle.events.specs.declared.Event.TheVariants.{Overflow, Underflow, Delay, TbOverflow, TbBusy, MbBusy}
 
 -- so many bytes at most, a closed number
 bytes_of : (n : ℕ) {x : Float} → n < bytes_limit → In zero_float x (plain n) → Bytes x
@@ -38,12 +39,12 @@ unfolding le lt eq
 nonneg_seconds n h i = seconds_of 0 n (lit≤ tt) h (widen_low (minus 0) i tt)
 
 pub event_figures : (e : Event) → EventIn e → EventFigures e
-event_figures (overflow x) i = bytes_of byte_limit (lit< tt) i
-event_figures (underflow d x) i = (seconds_of earliest_time latest_time (lit≤ tt) (lit≤ tt) i.0, bytes_of missing_limit (lit< tt) i.1)
-event_figures (delay d x) i = (seconds_of earliest_time latest_time (lit≤ tt) (lit≤ tt) i.0, nonneg_seconds delay_limit (lit≤ tt) i.1)
-event_figures (tb_overflow x) i = bytes_of peak_limit (lit< tt) i
-event_figures (tb_busy x) i = nonneg_seconds longest_window (lit≤ tt) i
-event_figures (mb_busy x) i = nonneg_seconds busy_limit (lit≤ tt) i
+event_figures (Overflow x) i = bytes_of byte_limit (lit< tt) i
+event_figures (Underflow d x) i = (seconds_of earliest_time latest_time (lit≤ tt) (lit≤ tt) i.0, bytes_of missing_limit (lit< tt) i.1)
+event_figures (Delay d x) i = (seconds_of earliest_time latest_time (lit≤ tt) (lit≤ tt) i.0, nonneg_seconds delay_limit (lit≤ tt) i.1)
+event_figures (TbOverflow x) i = bytes_of peak_limit (lit< tt) i
+event_figures (TbBusy x) i = nonneg_seconds longest_window (lit≤ tt) i
+event_figures (MbBusy x) i = nonneg_seconds busy_limit (lit≤ tt) i
 
 pub video_figures : {L n q p a : ℕ} {v : Video} → VideoIn L n q p a v → VideoFigures p v
 video_figures {L} {n} {q} {p} {a} {v} b =

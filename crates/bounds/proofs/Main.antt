@@ -30,7 +30,8 @@ use Rattle.bounds.proofs.Arrived.{inflow_append, settle_keeps, whole_add, within
 use Rattle.bounds.proofs.Events.{age_in, delay_in, events_append, events_when, over_in, units_append, units_within}
 use Rattle.bounds.proofs.Settled.{arrival_fits, arrival_in}
 use Rattle.bounds.proofs.Windows.{run_some}
-use Rattle.events.specs.Event.{overflow, underflow, when}
+use Rattle.events.specs.declared.Event.TheVariants.{Overflow, Underflow}
+use Rattle.events.specs.Event.{when}
 
 decode_time_lem : {u : AccessUnit} {k : ℕ} → UnitIs u k → TimeIn u.decode_time
 unfolding le lt eq
@@ -91,10 +92,10 @@ pend_main {n} {q} {p} {k} b u m i few =
     one u l p h = omega arith
 
 -- ---- the removal of a unit
-overflow_in_lem : (size x : Float) → SizeIn size → In (minus byte_limit) x (plain byte_limit) → EventsIn (when (lt (size ⊕ 1f) x) (overflow x))
+overflow_in_lem : (size x : Float) → SizeIn size → In (minus byte_limit) x (plain byte_limit) → EventsIn (when (lt (size ⊕ 1f) x) (Overflow x))
 unfolding of_bits add le lt eq
 overflow_in_lem size x g i =
-    events_when (lt (size ⊕ 1f) x) (overflow x)
+    events_when (lt (size ⊕ 1f) x) (Overflow x)
     (λ (z : lt (size ⊕ 1f) x ≡ true). over_in (add_in binary64 zero_float (plain (2 ^ 31)) g (closed_in (plain 1) 1f (plain 1) tt) tt) i z)
 
 module _ {n q p : ℕ} (size : Float) (g : SizeIn size) (b : Main) (m : MainBounded n q p b) (u : AccessUnit) (us : List AccessUnit) (k : ℕ) (i : UnitIs u k) (l : Units q us (m.whole + k))
@@ -154,7 +155,7 @@ module _ {n q p : ℕ} (size : Float) (g : SizeIn size) (b : Main) (m : MainBoun
   unfolding remove_events removal_events
   removed_events =
       events_append (overflow_in_lem size (arrived ⊖ b.removed) g fullness_in)
-      (events_append (events_when (lt (arrived ⊕ 1f) required) (underflow u.decode_time (required ⊖ arrived)) (λ (z : lt (arrived ⊕ 1f) required ≡ true). (i.decode, missing_in z)))
+      (events_append (events_when (lt (arrived ⊕ 1f) required) (Underflow u.decode_time (required ⊖ arrived)) (λ (z : lt (arrived ⊕ 1f) required ≡ true). (i.decode, missing_in z)))
       (delay_in i))
 
 -- ---- the removals up to a frontier, which may be infinite

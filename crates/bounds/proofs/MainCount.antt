@@ -10,7 +10,7 @@ use Rattle.branch.specs.MainBranch.{Drained, Main, at_peak, drain, drain_from, f
 use Rattle.branch.specs.declared.AccessUnit.{AccessUnit}
 use Rattle.bounds.specs.Events.{FewEvents}
 use Rattle.bounds.proofs.Count.{AtMost, at_most_append, at_most_when, no_unit_lem, one_event, one_unit}
-use Rattle.events.specs.Event.{delay, overflow, underflow}
+use Rattle.events.specs.declared.Event.TheVariants.{Overflow, Underflow, Delay}
 
 removal_few : (size : Float) (b : Main) (u : AccessUnit) → AtMost 3 (remove_events size b u)
 unfolding remove_events removal_events
@@ -19,8 +19,8 @@ removal_few size b u =
     let fullness = arrived ⊖ b.removed in
     let required = b.required ⊕ u.bytes in
     let age = u.decode_time ⊖ u.first_input_time in
-    at_most_append (at_most_when (lt (size ⊕ 1f) fullness) (overflow fullness))
-    (at_most_append (at_most_when (lt (arrived ⊕ 1f) required) (underflow u.decode_time (required ⊖ arrived))) (at_most_when (lt (1f ⊕ 1e-6f) age) (delay u.decode_time age)))
+    at_most_append (at_most_when (lt (size ⊕ 1f) fullness) (Overflow fullness))
+    (at_most_append (at_most_when (lt (arrived ⊕ 1f) required) (Underflow u.decode_time (required ⊖ arrived))) (at_most_when (lt (1f ⊕ 1e-6f) age) (Delay u.decode_time age)))
 
 abbrev DrainFew : ℕ → ℕ → Drained → Type 0
 DrainFew k n d = FewEvents k n d.events d.branch.units
@@ -45,4 +45,4 @@ unfolding finish look_at_end at_peak final_fullness
 finish_main_few size b =
     let d = (drain size +∞ b).branch in
     let fullness = final_total d.inflow ⊖ d.removed in
-    one_event (drain_few size +∞ b) (at_most_when (lt (size ⊕ 1f) fullness) (overflow fullness))
+    one_event (drain_few size +∞ b) (at_most_when (lt (size ⊕ 1f) fullness) (Overflow fullness))

@@ -26,7 +26,7 @@ use Rattle.bounds.specs.Events.{EventsIn}
 use Rattle.bounds.specs.Runs.{WindowTime, byte_limit}
 use Rattle.bounds.specs.Sys.{SysBounded, SysRate, TransportRate, slowest_sys}
 use Rattle.bounds.proofs.Events.{events_when}
-use Rattle.events.specs.Event.{overflow}
+use Rattle.events.specs.declared.Event.TheVariants.{Overflow}
 
 pub rsys_in : (rate : Float) → TransportRate rate → SysRate (rsys_of rate)
 unfolding rsys_of of_bits mul div le lt eq
@@ -113,5 +113,5 @@ module _ (n k : ℕ) (s : SysBranch) (x : Run) (r : Float) (b : SysBounded n s) 
   pub sys_events_lem : EventsIn (sys_events s x r)
   unfolding sys_events of_bits add le lt eq
   sys_events_lem =
-      events_when (lt (1536f ⊕ 1f) (filled s x r)) (overflow (filled s x r))
+      events_when (lt (1536f ⊕ 1f) (filled s x r)) (Overflow (filled s x r))
       (λ (z : lt (1536f ⊕ 1f) (filled s x r) ≡ true). widen_low zero_float (widen_at 0 byte_limit (widen_low (minus 0) filled_in tt) (lit≤ tt) few) tt)

@@ -44,7 +44,8 @@ use Rattle.bounds.proofs.Running.{Reach}
 use Rattle.bounds.proofs.Settled.{units_append_run}
 use Rattle.bounds.proofs.Transfer.{marked_append, marked_mono}
 use Rattle.bounds.proofs.Windows.{run_some, window_run}
-use Rattle.events.specs.Event.{mb_busy, when}
+use Rattle.events.specs.declared.Event.TheVariants.{MbBusy}
+use Rattle.events.specs.Event.{when}
 
 -- ---- times before the end, and at the end
 pub reach_advance : {n : ℕ} → n ≤ byte_limit → Reach n latest_time proc_limit
@@ -283,8 +284,8 @@ busy_in {L} {n} {q} {p} {a} {v} b = go b.leak
     go (inl x) = x.parts.longest
     go (inr x) = x.parts.longest
 
-busy_event : {L n q p a : ℕ} {v : Video} → VideoIn L n q p a v → EventsIn (when (lt (1f ⊕ 1e-6f) v.leak.longest_busy) (mb_busy v.leak.longest_busy))
-busy_event {L} {n} {q} {p} {a} {v} b = events_when (lt (1f ⊕ 1e-6f) v.leak.longest_busy) (mb_busy v.leak.longest_busy) (λ (e : lt (1f ⊕ 1e-6f) v.leak.longest_busy ≡ true). busy_in b)
+busy_event : {L n q p a : ℕ} {v : Video} → VideoIn L n q p a v → EventsIn (when (lt (1f ⊕ 1e-6f) v.leak.longest_busy) (MbBusy v.leak.longest_busy))
+busy_event {L} {n} {q} {p} {a} {v} b = events_when (lt (1f ⊕ 1e-6f) v.leak.longest_busy) (MbBusy v.leak.longest_busy) (λ (e : lt (1f ⊕ 1e-6f) v.leak.longest_busy ≡ true). busy_in b)
 
 pub finish_video_lem : {n q p a : ℕ} (r : VideoRates) (v : Video) → RatesIn r → a + p + 1 ≤ turn_limit → VideoBounded n q p a v → AdvancedIn last_limit n q p (a + 1) (finish_video r v)
 unfolding finish_video

@@ -3,7 +3,8 @@ use Rattle.std.specs.Prelude.{List, [], ◌∷◌, ◌*◌, ◌+◌, ◌^◌, �
 use Rattle.ieee.specs.Interval.{In, minus, plain, zero_float}
 use Rattle.fifo.specs.Bounds.{peak_limit}
 use Rattle.bounds.specs.Runs.{byte_limit, longest_window}
-use Rattle.events.specs.Event.{Event, delay, mb_busy, overflow, tb_busy, tb_overflow, underflow}
+use Rattle.events.specs.declared.Event.{Event}
+use Rattle.events.specs.declared.Event.TheVariants.{Overflow, Underflow, Delay, TbOverflow, TbBusy, MbBusy}
 
 -- decode times, and the arrivals up to which a branch advances, lie from -48,000 s to 113,000 s
 abbrev pub earliest_time : ℕ
@@ -31,12 +32,12 @@ abbrev pub missing_limit : ℕ
 missing_limit = byte_limit + eb_loss_limit
 
 abbrev pub EventIn : Event → Type 0
-EventIn (overflow x) = In zero_float x (plain byte_limit)
-EventIn (underflow d x) = UpTo latest_time d × In zero_float x (plain missing_limit)
-EventIn (delay d x) = UpTo latest_time d × In zero_float x (plain delay_limit)
-EventIn (tb_overflow x) = In zero_float x (plain peak_limit)
-EventIn (tb_busy x) = In zero_float x (plain longest_window)
-EventIn (mb_busy x) = In zero_float x (plain busy_limit)
+EventIn (Overflow x) = In zero_float x (plain byte_limit)
+EventIn (Underflow d x) = UpTo latest_time d × In zero_float x (plain missing_limit)
+EventIn (Delay d x) = UpTo latest_time d × In zero_float x (plain delay_limit)
+EventIn (TbOverflow x) = In zero_float x (plain peak_limit)
+EventIn (TbBusy x) = In zero_float x (plain longest_window)
+EventIn (MbBusy x) = In zero_float x (plain busy_limit)
 
 pub data EventsIn : List Event → Type 0 where
   no_events : EventsIn []

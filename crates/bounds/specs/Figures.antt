@@ -4,7 +4,8 @@ use Rattle.std.specs.Float.Ieee.{to_unsigned}
 use Rattle.ieee.specs.Interval.{In, minus, plain, zero_float}
 use Rattle.branch.specs.MainBranch.{Main}
 use Rattle.branch.specs.VideoBranch.{Video}
-use Rattle.events.specs.Event.{Event, delay, mb_busy, overflow, tb_busy, tb_overflow, underflow}
+use Rattle.events.specs.declared.Event.{Event}
+use Rattle.events.specs.declared.Event.TheVariants.{Overflow, Underflow, Delay, TbOverflow, TbBusy, MbBusy}
 
 abbrev pub bytes_limit : ℕ
 bytes_limit = 2 ^ 44
@@ -22,12 +23,12 @@ Seconds x = In (minus seconds_limit) x (plain seconds_limit)
 
 -- of an event
 abbrev pub EventFigures : Event → Type 0
-EventFigures (overflow x) = Bytes x
-EventFigures (underflow d x) = Seconds d × Bytes x
-EventFigures (delay d x) = Seconds d × Seconds x
-EventFigures (tb_overflow x) = Bytes x
-EventFigures (tb_busy x) = Seconds x
-EventFigures (mb_busy x) = Seconds x
+EventFigures (Overflow x) = Bytes x
+EventFigures (Underflow d x) = Seconds d × Bytes x
+EventFigures (Delay d x) = Seconds d × Seconds x
+EventFigures (TbOverflow x) = Bytes x
+EventFigures (TbBusy x) = Seconds x
+EventFigures (MbBusy x) = Seconds x
 
 -- of a chain with p access units
 pub record VideoFigures (p : ℕ) (v : Video) : Type 0 where

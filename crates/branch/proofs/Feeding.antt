@@ -1,5 +1,5 @@
 -- What a packet delivers to a main branch, and its end, in terms of the lists in the two rings.
-use Prim.Native.Nat.{ℕ, ◌+◌}
+use Prim.Native.Nat.{ℕ}
 use mathlib.Core.Path.{◌≡◌, refl, sym, ap, ◌∙◌}
 use mathlib.Core.Bool.{Bool, true, false, cond}
 use mathlib.Core.List.{List}
@@ -8,10 +8,10 @@ use native.Mathlib.Omega.{arith}
 use lib.Ieee.{Float, lt}
 use Rattle.ieee.specs.Binary64.{◌⊕◌, ◌⊖◌, 0f, 1f}
 use Rattle.ieee.specs.MaxMin.{max_of}
-use Rattle.events.specs.Event.{overflow, kind_of, figure_of, decode_of}
+use Rattle.events.specs.declared.Event.TheVariants.{Overflow}
+use Rattle.events.specs.Event.{when}
 use Rattle.events.specs.declared.Slots.{Slots}
-use Rattle.events.specs.Slots.{noted_if}
-use Rattle.events.proofs.Noted.{noted_all_when_lem}
+use Rattle.events.specs.Slots.{noted_all}
 use Rattle.branch.specs.declared.AccessUnit.{AccessUnit}
 use Rattle.branch.specs.declared.Run.{Run}
 use Rattle.branch.specs.declared.QueueFull.{QueueFull}
@@ -34,16 +34,16 @@ use Rattle.branch.proofs.UnitQueues.{units_kept}
 -- ---- the look at the end
 
 pub looked : (w : List Float) (p : MainModel) (b : MainBranch) (k : ℕ) (s x : Slots) (total peak : Float) → BranchLies w p b → total ≡ final_total (inflow_of w (runs_place p) b.inflow) →
-    x ≡ noted_if (lt (p.buffer_size ⊕ 1f) (total ⊖ b.removed)) (k + 0) (total ⊖ b.removed) 0f s → peak ≡ max_of b.peak (total ⊖ b.removed) →
+    x ≡ noted_all k (when (lt (p.buffer_size ⊕ 1f) (total ⊖ b.removed)) (Overflow (total ⊖ b.removed))) s → peak ≡ max_of b.peak (total ⊖ b.removed) →
     DrainedTo w p k s (look_at_end p.buffer_size (main_of w p b))
     (record { inflow = b.inflow; units = b.units; removed = b.removed; required = b.required; peak = peak })
     x
-unfolding look_at_end at_peak final_fullness main_of kind_of figure_of decode_of
+unfolding look_at_end at_peak final_fullness main_of
 looked w p b k s x total peak l t n h =
     record {
       lies = record { runs = l.runs; pending = l.pending };
       state = rw (h, t);
-      slots = rw t at (n ∙ sym (noted_all_when_lem k (lt (p.buffer_size ⊕ 1f) (total ⊖ b.removed)) (overflow (total ⊖ b.removed)) s));
+      slots = rw t at n;
     }
 
 -- ---- a branch that is left as it is

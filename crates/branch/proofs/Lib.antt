@@ -7,7 +7,6 @@ pub mod Inflows
 pub mod Removals
 pub mod Feeding
 pub mod MainSteps
-pub mod SysEvents
 pub mod Counts
 pub mod HeaderMarks
 pub mod VideoTurns

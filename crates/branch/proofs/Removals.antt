@@ -5,12 +5,13 @@ use mathlib.Core.Bool.{true, false}
 use mathlib.Core.List.{List, [], ◌∷◌}
 use native.Mathlib.Omega.{arith}
 use lib.Ieee.{Float, lt}
-use Rattle.ieee.specs.Binary64.{◌⊕◌, ◌⊖◌, 0f, 1f}
+use Rattle.ieee.specs.Binary64.{◌⊕◌, ◌⊖◌, 1f}
 use Rattle.ieee.specs.MaxMin.{max_of, min_of}
-use Rattle.events.specs.Event.{overflow, when, kind_of, figure_of, decode_of}
+use Rattle.events.specs.declared.Event.TheVariants.{Overflow}
+use Rattle.events.specs.Event.{when}
 use Rattle.events.specs.declared.Slots.{Slots}
-use Rattle.events.specs.Slots.{noted_if, noted_all}
-use Rattle.events.proofs.Noted.{noted_all_append_lem, noted_all_when_lem}
+use Rattle.events.specs.Slots.{noted_all}
+use Rattle.events.proofs.Noted.{noted_all_append_lem}
 use Rattle.branch.specs.declared.AccessUnit.{AccessUnit}
 use Rattle.branch.specs.declared.inflow.Arrived.{Arrived}
 use Rattle.branch.specs.declared.queue.Place.{Place}
@@ -27,18 +28,16 @@ use Rattle.branch.specs.MainInWork.{runs_place, units_place, units_of, main_of, 
 use Rattle.branch.proofs.Rings.{lies_popped, count_popped}
 
 -- the overflow, then the events of the unit
-removal_noted : (size arrived fullness required : Float) (u : AccessUnit) (k : ℕ) (s x z : Slots) → x ≡ noted_if (lt (size ⊕ 1f) fullness) (k + 0) fullness 0f s →
+removal_noted : (size arrived fullness required : Float) (u : AccessUnit) (k : ℕ) (s x z : Slots) → x ≡ noted_all k (when (lt (size ⊕ 1f) fullness) (Overflow fullness)) s →
     z ≡ noted_all k (unit_events arrived required u) x → z ≡ noted_all k (removal_events size arrived fullness required u) s
-unfolding removal_events kind_of figure_of decode_of
+unfolding removal_events
 removal_noted size arrived fullness required u k s x z a b =
-    let A = when (lt (size ⊕ 1f) fullness) (overflow fullness) in
-    let x' : x ≡ noted_all k A s = a ∙ sym (noted_all_when_lem k (lt (size ⊕ 1f) fullness) (overflow fullness) s) in
-    b ∙ (ap (noted_all k (unit_events arrived required u)) x' ∙ sym (noted_all_append_lem k A (unit_events arrived required u) s))
+    b ∙ (ap (noted_all k (unit_events arrived required u)) a ∙ sym (noted_all_append_lem k (when (lt (size ⊕ 1f) fullness) (Overflow fullness)) (unit_events arrived required u) s))
 
 -- what `remove` gives
 module _ (w : List Float) (p : MainModel) (b : MainBranch) (u : AccessUnit) (k : ℕ) (s x s' : Slots) (g : Arrived) (got : ArrivedTo w (runs_place p) b.inflow u.decode_time g) where
   pub removed_to : (lo hi : Float) (q : Units) → lo ≡ min_of (b.required ⊕ u.bytes) g.total → hi ≡ max_of b.peak (g.total ⊖ b.removed) → q ≡ removed_units p.depth b.units u →
-      x ≡ noted_if (lt (p.buffer_size ⊕ 1f) (g.total ⊖ b.removed)) (k + 0) (g.total ⊖ b.removed) 0f s → s' ≡ noted_all k (unit_events g.total (b.required ⊕ u.bytes) u) x →
+      x ≡ noted_all k (when (lt (p.buffer_size ⊕ 1f) (g.total ⊖ b.removed)) (Overflow (g.total ⊖ b.removed))) s → s' ≡ noted_all k (unit_events g.total (b.required ⊕ u.bytes) u) x →
       RemovedTo w p b u k s (record { inflow = g.inflow; units = q; removed = lo; required = b.required ⊕ u.bytes; peak = hi }) s'
   unfolding main_of remove_unit remove_events
   removed_to lo hi q l h e a n =

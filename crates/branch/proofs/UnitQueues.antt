@@ -7,10 +7,11 @@ use mathlib.Core.Logic.{◌⊎◌}
 use lib.Dec.{eqb}
 use lib.Ieee.{Float, lt, le}
 use Rattle.ieee.specs.Binary64.{◌⊕◌, ◌⊖◌, 1f, 1e-6f}
-use Rattle.events.specs.Event.{underflow, delay, kind_of, figure_of, decode_of}
+use Rattle.events.specs.declared.Event.TheVariants.{Underflow, Delay}
+use Rattle.events.specs.Event.{when}
 use Rattle.events.specs.declared.Slots.{Slots}
-use Rattle.events.specs.Slots.{noted_if, noted_all}
-use Rattle.events.proofs.Noted.{noted_all_append_lem, noted_all_when_lem}
+use Rattle.events.specs.Slots.{noted_all}
+use Rattle.events.proofs.Noted.{noted_all_append_lem}
 use Rattle.std.specs.Prelude.{⊤, Option, Some, None, Result, Ok, Err, is_err, IsErr}
 use Rattle.std.proofs.lemmas.Option.{none-some}
 use Rattle.branch.specs.declared.AccessUnit.{AccessUnit}
@@ -26,11 +27,10 @@ use Rattle.branch.proofs.Rings.{some_is, kept, popped, count_entries, no_entries
 
 -- ---- the events of a removal
 
-pub noted_removal : (k : ℕ) (arrived required : Float) (u : AccessUnit) (s s' s'' : Slots) → s' ≡ noted_if (lt (arrived ⊕ 1f) required) (k + 1) (required ⊖ arrived) u.decode_time s
-    → s'' ≡ noted_if (lt (1f ⊕ 1e-6f) (u.decode_time ⊖ u.first_input_time)) (k + 2) (u.decode_time ⊖ u.first_input_time) u.decode_time s' → s'' ≡ noted_all k (unit_events arrived required u) s
-unfolding kind_of figure_of decode_of
+pub noted_removal : (k : ℕ) (arrived required : Float) (u : AccessUnit) (s s' s'' : Slots) → s' ≡ noted_all k (when (lt (arrived ⊕ 1f) required) (Underflow u.decode_time (required ⊖ arrived))) s
+    → s'' ≡ noted_all k (when (lt (1f ⊕ 1e-6f) (u.decode_time ⊖ u.first_input_time)) (Delay u.decode_time (u.decode_time ⊖ u.first_input_time))) s' → s'' ≡ noted_all k (unit_events arrived required u) s
 noted_removal k arrived required u s s' s'' e e' =
-    e' ∙ (sym (noted_all_when_lem k _ (delay _ _) s') ∙ (ap (noted_all k _) (e ∙ sym (noted_all_when_lem k _ (underflow _ _) s)) ∙ sym (noted_all_append_lem k _ _ s)))
+    e' ∙ (ap (noted_all k _) e ∙ sym (noted_all_append_lem k _ _ s))
 
 -- ---- the pending units, where the work changes elsewhere
 

@@ -10,7 +10,8 @@ use lib.Ieee.{Float, lt}
 use Rattle.std.proofs.lemmas.Bool.{and_parts}
 use Rattle.ieee.specs.Binary64.{◌⊕◌, ◌⊘◌, 0f, 1f, 2f, 1e-6f}
 use Rattle.ieee.specs.MaxMin.{max_of}
-use Rattle.events.specs.Event.{when, mb_busy}
+use Rattle.events.specs.declared.Event.TheVariants.{MbBusy}
+use Rattle.events.specs.Event.{when}
 use Rattle.events.specs.declared.Slots.{Slots}
 use Rattle.events.specs.Slots.{noted_all}
 use Rattle.events.proofs.Noted.{noted_all_append_lem}
@@ -69,7 +70,7 @@ module _ (w v : List Float) (m : VideoLayout) (b : VideoBranch) (k : ℕ) (s : S
   -- the end
   module _ (h : VideoFedTo w m b (close_au depth C) r c v) (f : is_err r ≡ false) (a : VideoBranch) (s' s'' : Slots) (until : Float)
       (e : until ≡ max_of c.leak.proc_time 0f ⊕ c.queued ⊘ m.rbx ⊕ 2f) (g : AdvancedTo v m k c.units.open_au s (advance R until (video_of v m c)) a s')
-      (n : s'' ≡ noted_all k (when (lt (1f ⊕ 1e-6f) a.leak.longest_busy) (mb_busy a.leak.longest_busy)) s') where
+      (n : s'' ≡ noted_all k (when (lt (1f ⊕ 1e-6f) a.leak.longest_busy) (MbBusy a.leak.longest_busy)) s') where
     drained : until ≡ drain_time R (video_of v m c)
     unfolding drain_time video_of leak_of
     drained = e
@@ -94,7 +95,7 @@ module _ (w v : List Float) (m : VideoLayout) (b : VideoBranch) (k : ℕ) (s : S
     unfolding finish_video
     noted =
         n
-        ∙ (ap (λ (z : Float). noted_all k (when (lt (1f ⊕ 1e-6f) z) (mb_busy z)) s') longest
+        ∙ (ap (λ (z : Float). noted_all k (when (lt (1f ⊕ 1e-6f) z) (MbBusy z)) s') longest
         ∙ (ap (noted_all k _) (g.slots ∙ ap (λ (z : Float). noted_all k (advance R z (video_of v m c)).events s) drained) ∙ sym (noted_all_append_lem k _ _ s)))
 
     pub end_reached : SteppedTo w m k s (end_step R (close_au depth C)) (Ok tt) a v s''

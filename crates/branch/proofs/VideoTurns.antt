@@ -19,7 +19,9 @@ use Rattle.branch.specs.declared.leak.Leak.{Leak as LeakState}
 use Rattle.branch.specs.declared.leak.Turned.{Turned as TurnState}
 use Rattle.branch.specs.CumulativeIn.{Inflow, settle, arrived_by, time_of_cumulative}
 use Rattle.branch.specs.VideoBranch.{VideoRates, Transfer, transfer, Leak, mb_fullness, eb_room, since_seen, longest_seen, looked, stalled, gone, Turned, on, break, arriving, pace_take, filled, paced, backlog_take, backlogged, step, turn, turns, ran, started, closed, leak_until, leak_events}
-use Rattle.events.specs.Event.{Event, overflow, when}
+use Rattle.events.specs.declared.Event.{Event}
+use Rattle.events.specs.declared.Event.TheVariants.{Overflow}
+use Rattle.events.specs.Event.{when}
 use Rattle.events.specs.declared.Slots.{Slots}
 use Rattle.events.specs.Slots.{noted_all}
 use Rattle.branch.specs.VideoInWork.{rates_of, flow_of, leak_of, Transferred, LeakLies, LeakIs, SettledAt, TurnIs, TurnsEnd, settled_leak, ReachedBy, closed_state, ClosedBy, LeaksTo}
@@ -270,7 +272,7 @@ unfolding leak_until leak_events
 leak_started r t S h = (simp h, simp h)
 
 leak_run : (r : VideoRates) (t : Float) (S : Leak) → eq S.proc_time -∞ ≡ false
-    → (leak_until r t S ≡ closed (ran r t S) t) × (leak_events r t S ≡ when (lt (r.mb_size ⊕ 1f) (mb_fullness (ran r t S) t)) (overflow (mb_fullness (ran r t S) t)))
+    → (leak_until r t S ≡ closed (ran r t S) t) × (leak_events r t S ≡ when (lt (r.mb_size ⊕ 1f) (mb_fullness (ran r t S) t)) (Overflow (mb_fullness (ran r t S) t)))
 unfolding leak_until leak_events
 leak_run r t S h = (simp h, simp h)
 
@@ -308,9 +310,9 @@ module _ (w : List Float) (m : VideoLayout) (t : Float) (k : ℕ) (before after 
   unfolding closed_state
   closed_lies = record { runs = b.leak.lies.runs; marks = b.leak.lies.marks }
 
-  events : when (lt (m.mb_size ⊕ 1f) (amount ⊖ (leak_of w m e).flow.transferred)) (overflow (amount ⊖ (leak_of w m e).flow.transferred))
-      ≡ when (lt (m.mb_size ⊕ 1f) (mb_fullness R t)) (overflow (mb_fullness R t))
-  events = ap (λ (x : Float). when (lt (m.mb_size ⊕ 1f) x) (overflow x)) full
+  events : when (lt (m.mb_size ⊕ 1f) (amount ⊖ (leak_of w m e).flow.transferred)) (Overflow (amount ⊖ (leak_of w m e).flow.transferred))
+      ≡ when (lt (m.mb_size ⊕ 1f) (mb_fullness R t)) (Overflow (mb_fullness R t))
+  events = ap (λ (x : Float). when (lt (m.mb_size ⊕ 1f) x) (Overflow x)) full
 
   pub leak_rest : LeaksTo w m t k before after (leak_of w m l) r
   unfolding leak_of flow_of

@@ -4,7 +4,9 @@ use Rattle.std.specs.Prelude.{ℕ, ◌+◌, Bool, true, false, cond, List, [], �
 use Rattle.std.specs.Float.Ieee.{lt}
 use Rattle.ieee.specs.Binary64.{◌⊕◌, ◌⊖◌, +∞, 0f, 1f}
 use Rattle.ieee.specs.MaxMin.{max_of, min_of}
-use Rattle.events.specs.Event.{Event, overflow, when}
+use Rattle.events.specs.declared.Event.{Event}
+use Rattle.events.specs.declared.Event.TheVariants.{Overflow}
+use Rattle.events.specs.Event.{when}
 use Rattle.branch.specs.declared.Run.{Run}
 use Rattle.branch.specs.declared.AccessUnit.{AccessUnit}
 use Rattle.branch.specs.declared.Delivered.{Delivered}
@@ -35,7 +37,7 @@ pub record Drained : Type 0 where
 -- the removal of a unit: size is BSn, arrived what has arrived by the decode time, required what all units up to this one hold
 unfoldable pub removal_events : Float → Float → Float → Float → AccessUnit → List Event
 removal_events size arrived fullness required u =
-    when (lt (size ⊕ 1f) fullness) (overflow fullness) ++ unit_events arrived required u
+    when (lt (size ⊕ 1f) fullness) (Overflow fullness) ++ unit_events arrived required u
 
 unfoldable pub remove_events : Float → Main → AccessUnit → List Event
 remove_events size b u =
@@ -88,7 +90,7 @@ at_peak b peak =
 
 -- the fullness of all that arrives
 unfoldable pub look_at_end : Float → Main → Drained
-look_at_end size b = record { branch = at_peak b (final_fullness b); events = when (lt (size ⊕ 1f) (final_fullness b)) (overflow (final_fullness b)) }
+look_at_end size b = record { branch = at_peak b (final_fullness b); events = when (lt (size ⊕ 1f) (final_fullness b)) (Overflow (final_fullness b)) }
 
 -- the end: every removal, then that fullness
 unfoldable pub finish : Float → Main → Drained

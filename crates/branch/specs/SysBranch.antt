@@ -3,7 +3,9 @@ use Rattle.std.specs.Prelude.{cond, List, Float}
 use Rattle.std.specs.Float.Ieee.{lt, eq}
 use Rattle.ieee.specs.Binary64.{◌⊕◌, ◌⊖◌, ◌⊗◌, ◌⊘◌, -∞, 0f, 1f, 8f, 500f, 1536f, 80000f}
 use Rattle.ieee.specs.MaxMin.{max_of}
-use Rattle.events.specs.Event.{Event, overflow, when}
+use Rattle.events.specs.declared.Event.{Event}
+use Rattle.events.specs.declared.Event.TheVariants.{Overflow}
+use Rattle.events.specs.Event.{when}
 use Rattle.branch.specs.declared.Run.{Run}
 use Rattle.branch.specs.declared.sys_branch.SysBranch.{SysBranch}
 
@@ -30,4 +32,4 @@ unfoldable pub push_sys : SysBranch → Run → Float → SysBranch
 push_sys s r rsys = record { fullness = filled s r rsys; last_time = r.t1; peak = max_of s.peak (filled s r rsys) }
 
 unfoldable pub sys_events : SysBranch → Run → Float → List Event
-sys_events s r rsys = when (lt (1536f ⊕ 1f) (filled s r rsys)) (overflow (filled s r rsys))
+sys_events s r rsys = when (lt (1536f ⊕ 1f) (filled s r rsys)) (Overflow (filled s r rsys))

@@ -4,7 +4,9 @@ use Rattle.std.specs.Prelude.{ℕ, Bool, true, false, cond, List, [], ◌∷◌,
 use Rattle.std.specs.Float.Ieee.{lt, le, ne}
 use Rattle.std.specs.Prelude.{Option, Some, None}
 use Rattle.ieee.specs.Binary64.{◌⊕◌, ◌⊖◌, -∞, 0f, 1f, 1e-6f}
-use Rattle.events.specs.Event.{Event, underflow, delay, when}
+use Rattle.events.specs.declared.Event.{Event}
+use Rattle.events.specs.declared.Event.TheVariants.{Underflow, Delay}
+use Rattle.events.specs.Event.{when}
 use Rattle.branch.specs.declared.AccessUnit.{AccessUnit}
 use Rattle.branch.specs.declared.Delivered.{Delivered}
 
@@ -64,5 +66,5 @@ due_now (u ∷ us) frontier = cond (le u.decode_time frontier) (Some u) None
 -- the removal of a unit: arrived is what has arrived by the decode time, required what all units up to this one hold
 abbrev pub unit_events : Float → Float → AccessUnit → List Event
 unit_events arrived required u =
-    when (lt (arrived ⊕ 1f) required) (underflow u.decode_time (required ⊖ arrived))
-    ++ when (lt (1f ⊕ 1e-6f) (u.decode_time ⊖ u.first_input_time)) (delay u.decode_time (u.decode_time ⊖ u.first_input_time))
+    when (lt (arrived ⊕ 1f) required) (Underflow u.decode_time (required ⊖ arrived))
+    ++ when (lt (1f ⊕ 1e-6f) (u.decode_time ⊖ u.first_input_time)) (Delay u.decode_time (u.decode_time ⊖ u.first_input_time))

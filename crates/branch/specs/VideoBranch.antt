@@ -7,7 +7,9 @@ use Rattle.ieee.specs.MaxMin.{max_of, min_of}
 use Rattle.branch.specs.declared.Run.{Run}
 use Rattle.branch.specs.declared.AccessUnit.{AccessUnit}
 use Rattle.branch.specs.declared.HeaderMark.{HeaderMark}
-use Rattle.events.specs.Event.{Event, overflow, mb_busy, when}
+use Rattle.events.specs.declared.Event.{Event}
+use Rattle.events.specs.declared.Event.TheVariants.{Overflow, MbBusy}
+use Rattle.events.specs.Event.{when}
 use Rattle.branch.specs.Units.{unit_events}
 use Rattle.branch.specs.CumulativeIn.{Inflow, settle, arrived_by, push_run, time_of_cumulative}
 
@@ -213,7 +215,7 @@ leak_until r t s = cond (eq s.proc_time -∞) (started s t) (closed (ran r t s) 
 unfoldable pub leak_events : VideoRates → Float → Leak → List Event
 leak_events r t s =
     cond (eq s.proc_time -∞) []
-    (when (lt (r.mb_size ⊕ 1f) (mb_fullness (ran r t s) t)) (overflow (mb_fullness (ran r t s) t)))
+    (when (lt (r.mb_size ⊕ 1f) (mb_fullness (ran r t s) t)) (Overflow (mb_fullness (ran r t s) t)))
 
 -- ---- the branch
 pub record Video : Type 0 where
@@ -297,7 +299,7 @@ finish_video r v =
       branch = (advance r (drain_time r v) v).branch;
       events =
           (advance r (drain_time r v) v).events
-          ++ when (lt (1f ⊕ 1e-6f) (advance r (drain_time r v) v).branch.leak.longest_busy) (mb_busy (advance r (drain_time r v) v).branch.leak.longest_busy);
+          ++ when (lt (1f ⊕ 1e-6f) (advance r (drain_time r v) v).branch.leak.longest_busy) (MbBusy (advance r (drain_time r v) v).branch.leak.longest_busy);
     }
 
 -- a run enters MBn; header bytes are marked where the queue then ends

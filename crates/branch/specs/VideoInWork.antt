@@ -6,7 +6,8 @@ use Rattle.std.specs.Option.{is_some}
 use Rattle.std.specs.Float.Ieee.{lt, eq}
 use Rattle.ieee.specs.Binary64.{◌⊕◌, ◌⊖◌, 0f, 1f, -∞}
 use Rattle.ieee.specs.MaxMin.{max_of}
-use Rattle.events.specs.Event.{overflow, when}
+use Rattle.events.specs.declared.Event.TheVariants.{Overflow}
+use Rattle.events.specs.Event.{when}
 use Rattle.events.specs.declared.Slots.{Slots}
 use Rattle.events.specs.Slots.{noted_all}
 use Rattle.branch.specs.declared.Run.{Run}
@@ -142,7 +143,7 @@ closed_state l total t =
 
 pub record ClosedBy (m : VideoLayout) (l : LeakState) (total t : Float) (k : ℕ) (before after : Slots) (r : LeakState) : Type 0 where
   pub leak : r ≡ closed_state l total t
-  pub events : after ≡ noted_all k (when (lt (m.mb_size ⊕ 1f) (total ⊖ l.flow.transferred)) (overflow (total ⊖ l.flow.transferred))) before
+  pub events : after ≡ noted_all k (when (lt (m.mb_size ⊕ 1f) (total ⊖ l.flow.transferred)) (Overflow (total ⊖ l.flow.transferred))) before
 
 -- the leak up to t, with its events in the slots from k on
 pub record LeaksTo (w : List Float) (m : VideoLayout) (t : Float) (k : ℕ) (before after : Slots) (s : Leak) (r : LeakState) : Type 0 where

@@ -2,7 +2,7 @@
 use Rattle.std.specs.Prelude.{ℕ, Bool, true, false, cond, ◌&&◌, ◌||◌, List, [], length, eqb, Float, Option, None}
 use Rattle.std.specs.Float.Ieee.{le}
 use Rattle.ieee.specs.Binary64.{0f, -∞}
-use Rattle.events.specs.Event.{Event}
+use Rattle.events.specs.declared.Event.{Event}
 use Rattle.branch.specs.declared.AccessUnit.{AccessUnit}
 use Rattle.branch.specs.declared.Run.{Run}
 use Rattle.branch.specs.declared.Delivered.{Delivered}

@@ -11,7 +11,7 @@ ghost use Rattle.branch.specs.VideoInWork.{rates_of, flow_of, leak_of, HeadersBy
 use crate::HeaderMark;
 use crate::inflow::CumulativeIn;
 use crate::queue::{Place, Ring};
-use events::{EventKind, Slots};
+use events::{Event, Slots};
 use ieee::{max, min};
 
 // The rate Rbxn in bytes a second, the sizes MBSn and EBSn in bytes, and where the three rings stand in the work. The work is handed on
@@ -321,13 +321,7 @@ impl Leak {
         ensures { ClosedBy m self total t k slots.old slots.new result }
     {
         let fullness = total - self.flow.transferred;
-        slots.note_kind_if(
-            fullness > m.mb_size + 1.0,
-            k,
-            EventKind::Overflow,
-            fullness,
-            0.0,
-        );
+        slots.note_when(fullness > m.mb_size + 1.0, k, Event::Overflow(fullness));
         Leak {
             longest_busy: self.longest_until(t),
             mb_peak: max(self.mb_peak, fullness),

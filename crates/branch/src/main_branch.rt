@@ -7,7 +7,7 @@ use crate::inflow::CumulativeIn;
 use crate::queue::{Place, Ring};
 use crate::units::{Units, note_removal};
 use crate::{AccessUnit, Delivered, QueueFull, Run};
-use events::{EventKind, Slots};
+use events::{Event, Slots};
 
 // What does not change: BSn in bytes, and where the chain's part of the work begins, with the depth of its two rings. The work is handed
 // on beside it (see Place), so the clause BranchLies says where the rings lie. The slots are handed on beside k, where those of the chain
@@ -109,13 +109,7 @@ impl MainBranch {
         let got = self.inflow.arrived_by(p.runs_place(), work, u.decode_time);
         let fullness = got.total - self.removed;
         let required = self.required + u.bytes;
-        slots.note_kind_if(
-            fullness > p.buffer_size + 1.0,
-            k,
-            EventKind::Overflow,
-            fullness,
-            0.0,
-        );
+        slots.note_when(fullness > p.buffer_size + 1.0, k, Event::Overflow(fullness));
         note_removal(got.total, required, u, slots, k);
         self.inflow = got.inflow;
         self.units.remove(p.units_place(), u);
@@ -146,13 +140,7 @@ impl MainBranch {
         ensures { DrainedTo work.now p k slots.old (look_at_end p.buffer_size (main_of work.now p self.old)) self.new slots.new }
     {
         let fullness = self.inflow.final_total(p.runs_place(), work) - self.removed;
-        slots.note_kind_if(
-            fullness > p.buffer_size + 1.0,
-            k,
-            EventKind::Overflow,
-            fullness,
-            0.0,
-        );
+        slots.note_when(fullness > p.buffer_size + 1.0, k, Event::Overflow(fullness));
         self.peak = ieee::max(self.peak, fullness);
     }
 

@@ -4,7 +4,7 @@ ghost use Rattle.events.specs.Slots.{noted_all};
 ghost use Rattle.branch.specs.SysBranch.{new_sys, rsys_of, since as sinceDef, idled as idledDef, filled as filledDef, push_sys, sys_events};
 
 use crate::Run;
-use events::{EventKind, Slots};
+use events::{Event, Slots};
 
 // The time of the last byte is -infinity before the first run, as in the definition `since`. The slots are handed on beside k (see
 // MainModel).
@@ -65,18 +65,12 @@ impl SysBranch {
 
     // A run goes into Bsys, at the rate around its time; an overflow goes to slot k.
     // Ruled out: an overflow at 1536 bytes without the byte of tolerance; the gap before the first run drained.
-    #[tactic(auto, unfolding(crate::specs::SysBranch::push_sys), using(crate::proofs::SysEvents::sys_noted))]
+    #[tactic(auto, unfolding(crate::specs::SysBranch::push_sys, crate::specs::SysBranch::sys_events))]
     pub fn push(self, run: Run, rate: f64, slots: &mut Slots, k: usize) -> SysBranch
         ensures { (result ≡ push_sys self run rate) × (slots.new ≡ noted_all k (sys_events self run rate) slots.old) }
     {
         let fullness = self.filled(run, rate);
-        slots.note_kind_if(
-            fullness > 1536.0 + 1.0,
-            k,
-            EventKind::Overflow,
-            fullness,
-            0.0,
-        );
+        slots.note_when(fullness > 1536.0 + 1.0, k, Event::Overflow(fullness));
         SysBranch {
             fullness,
             last_time: run.t1,

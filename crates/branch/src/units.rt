@@ -7,7 +7,7 @@ ghost use Rattle.branch.specs.UnitsInWork.{no_units, waiting_of, UnitsTo, grown_
 
 use crate::queue::{Place, Ring};
 use crate::{AccessUnit, Delivered, QueueFull};
-use events::{EventKind, Slots};
+use events::{Event, Slots};
 
 // The units that are pending, in a ring of the work, and the one whose bytes still arrive; and what the removals tell. Place and
 // work are handed on beside it (see Place), and the slots beside k (see MainModel).
@@ -24,16 +24,25 @@ pub struct Units {
 pub(crate) fn note_removal(arrived: f64, required: f64, u: AccessUnit, slots: &mut Slots, k: usize)
     ensures { slots.new ≡ noted_all k (unit_events arrived required u) slots.old }
 {
-    let at = u.decode_time;
-    slots.note_kind_if(
+    let decode_time = u.decode_time;
+    let missing = required - arrived;
+    slots.note_when(
         arrived + 1.0 < required,
         k,
-        EventKind::Underflow,
-        required - arrived,
-        at,
+        Event::Underflow {
+            decode_time,
+            missing,
+        },
     );
-    let delay = at - u.first_input_time;
-    slots.note_kind_if(delay > 1.0 + 1e-6, k, EventKind::Delay, delay, at);
+    let seconds = decode_time - u.first_input_time;
+    slots.note_when(
+        seconds > 1.0 + 1e-6,
+        k,
+        Event::Delay {
+            decode_time,
+            seconds,
+        },
+    );
 }
 
 impl Delivered {

@@ -10,7 +10,7 @@ use crate::leak::{Flow, Leak, VideoLayout};
 use crate::queue::{Place, Ring};
 use crate::units::{Units, note_removal};
 use crate::{AccessUnit, Delivered, HeaderMark, QueueFull, Run};
-use events::{EventKind, Slots};
+use events::{Event, Slots};
 use ieee::{max, min};
 
 // What does not change: the rate Rbxn in bytes a second, the sizes MBSn and EBSn in bytes, and where the chain's part of the work begins,
@@ -278,7 +278,7 @@ impl VideoBranch {
         let end = max(self.leak.proc_time, 0.0) + self.queued / m.rbx + 2.0;
         self.advance(m, work, end, slots, k);
         let longest = self.leak.longest_busy;
-        slots.note_kind_if(longest > 1.0 + 1e-6, k, EventKind::MbBusy, longest, 0.0);
+        slots.note_when(longest > 1.0 + 1e-6, k, Event::MbBusy(longest));
         Ok(())
     }
 }

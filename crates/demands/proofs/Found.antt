@@ -4,7 +4,7 @@ use mathlib.Core.Path.{◌≡◌}
 use mathlib.Core.Logic.{◌⊎◌}
 use mathlib.Core.List.{List, [], ◌∷◌, ◌++◌, map}
 use lib.ListN.{length, drop, length-append, length-map}
-use Rattle.events.specs.Event.{Event}
+use Rattle.events.specs.declared.Event.{Event}
 use Rattle.bounds.specs.Events.{EventsIn, an_event}
 use Rattle.report.specs.Record.{Each}
 use Rattle.profile.specs.declared.config.TStdConfig.{TStdConfig}

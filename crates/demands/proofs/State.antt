@@ -29,7 +29,7 @@ use Rattle.fifo.specs.FluidFifo.{pushed}
 use Rattle.fifo.proofs.Bounds.{new_bounded, push_bounded, push_window}
 use Rattle.branch.specs.declared.Run.{Run}
 use Rattle.branch.specs.SysBranch.{rsys_of, sys_events, filled}
-use Rattle.events.specs.Event.{overflow}
+use Rattle.events.specs.declared.Event.TheVariants.{Overflow}
 use Rattle.bounds.specs.Runs.{WindowTime}
 use Rattle.bounds.specs.Sys.{TransportRate}
 use Rattle.bounds.proofs.Count.{AtMost, at_most_when}
@@ -212,7 +212,7 @@ module _ (c : TStdConfig) (within : Within replay_limits c) where
 
         sys_few : AtMost 1 (sys_events s.sys run rsys)
         unfolding sys_events
-        sys_few = at_most_when (lt (1536f ⊕ 1f) (filled s.sys run rsys)) (overflow (filled s.sys run rsys))
+        sys_few = at_most_when (lt (1536f ⊕ 1f) (filled s.sys run rsys)) (Overflow (filled s.sys run rsys))
 
         system_holds : StateHolds c (suc k) 0 (system_step c clock (188 * k) s)
         unfolding system_step

@@ -14,7 +14,8 @@ use Rattle.ieee.specs.Binary64.{0f}
 use Rattle.ieee.specs.Interval.{In, plain, minus, zero_float}
 use Rattle.ieee.proofs.Interval.{closed_in}
 use Rattle.ieee.proofs.Truncation.{truncation_le}
-use Rattle.events.specs.Event.{Event, overflow, underflow, delay, tb_overflow, tb_busy, mb_busy}
+use Rattle.events.specs.declared.Event.{Event}
+use Rattle.events.specs.declared.Event.TheVariants.{Overflow, Underflow, Delay, TbOverflow, TbBusy, MbBusy}
 use Rattle.bounds.specs.Events.{EventIn, busy_limit, delay_limit}
 use Rattle.bounds.proofs.Figures.{event_figures}
 use Rattle.report.specs.declared.violation.TStdViolation.{TStdViolation}
@@ -27,7 +28,7 @@ use Rattle.profile.specs.declared.config.TStdConfig.{TStdConfig}
 use Rattle.profile.specs.Config.{streams_of, unused_stream}
 use Rattle.profile.specs.Limits.{replay_limits}
 use Rattle.profile.proofs.Within.{Within, StreamWithin, BranchWithin}
-use Rattle.summary.specs.Violation.{whole_bytes, overflow_in, underflow_in, stream_violation, system_violation, system_pid, violation_of}
+use Rattle.summary.specs.Violation.{whole_bytes, overflow_in, underflow_in, chain_violation, stream_violation, system_violation, system_pid, violation_of}
 use Rattle.summary.specs.Summary.{Found, violations_of}
 use Rattle.demands.specs.Refused.{stream_of}
 use Rattle.demands.specs.State.{FoundHolds}
@@ -55,22 +56,22 @@ underflow_bounded (Main size) pid t n d h = record { limit = omega arith; decode
 underflow_bounded (Video rbx mb eb) pid t n d h = record { limit = omega arith; decode = d; figure = h }
 
 stream_bounded : (s : TStdStream) (e : Event) → StreamWithin s → EventIn e → Bounded (stream_violation s e)
-unfolding stream_violation fields_of
-stream_bounded s (overflow b) w i = overflow_bounded s.model.branch s.pid _ w.branch (event_figures (overflow b) i).whole
-stream_bounded s (underflow t b) w i = let f = event_figures (underflow t b) i in underflow_bounded s.model.branch s.pid t _ f.0 f.1.whole
-stream_bounded s (delay t d) w i = let f = event_figures (delay t d) i in record { limit = omega arith; decode = f.0; figure = f.1 }
-stream_bounded s (tb_overflow b) w i = record { limit = omega arith; decode = zero_time; figure = (event_figures (tb_overflow b) i).whole }
-stream_bounded s (tb_busy d) w i = record { limit = omega arith; decode = zero_time; figure = event_figures (tb_busy d) i }
-stream_bounded s (mb_busy d) w i = record { limit = omega arith; decode = zero_time; figure = event_figures (mb_busy d) i }
+unfolding chain_violation fields_of
+stream_bounded s (Overflow b) w i = overflow_bounded s.model.branch s.pid _ w.branch (event_figures (Overflow b) i).whole
+stream_bounded s (Underflow t b) w i = let f = event_figures (Underflow t b) i in underflow_bounded s.model.branch s.pid t _ f.0 f.1.whole
+stream_bounded s (Delay t d) w i = let f = event_figures (Delay t d) i in record { limit = omega arith; decode = f.0; figure = f.1 }
+stream_bounded s (TbOverflow b) w i = record { limit = omega arith; decode = zero_time; figure = (event_figures (TbOverflow b) i).whole }
+stream_bounded s (TbBusy d) w i = record { limit = omega arith; decode = zero_time; figure = event_figures (TbBusy d) i }
+stream_bounded s (MbBusy d) w i = record { limit = omega arith; decode = zero_time; figure = event_figures (MbBusy d) i }
 
 system_bounded : (pid : ℕ) (e : Event) → EventIn e → Bounded (system_violation pid e)
-unfolding system_violation fields_of
-system_bounded pid (overflow b) i = record { limit = omega arith; decode = zero_time; figure = (event_figures (overflow b) i).whole }
-system_bounded pid (tb_overflow b) i = record { limit = omega arith; decode = zero_time; figure = (event_figures (tb_overflow b) i).whole }
-system_bounded pid (tb_busy d) i = record { limit = omega arith; decode = zero_time; figure = event_figures (tb_busy d) i }
-system_bounded pid (underflow t b) i = record { limit = omega arith; decode = zero_time; figure = (event_figures (underflow t b) i).1.whole }
-system_bounded pid (delay t d) i = record { limit = omega arith; decode = zero_time; figure = whole_below delay_limit (lit< tt) i.1 }
-system_bounded pid (mb_busy d) i = record { limit = omega arith; decode = zero_time; figure = whole_below busy_limit (lit< tt) i }
+unfolding chain_violation fields_of
+system_bounded pid (Overflow b) i = record { limit = omega arith; decode = zero_time; figure = (event_figures (Overflow b) i).whole }
+system_bounded pid (TbOverflow b) i = record { limit = omega arith; decode = zero_time; figure = (event_figures (TbOverflow b) i).whole }
+system_bounded pid (TbBusy d) i = record { limit = omega arith; decode = zero_time; figure = event_figures (TbBusy d) i }
+system_bounded pid (Underflow t b) i = record { limit = omega arith; decode = zero_time; figure = (event_figures (Underflow t b) i).1.whole }
+system_bounded pid (Delay t d) i = record { limit = omega arith; decode = zero_time; figure = whole_below delay_limit (lit< tt) i.1 }
+system_bounded pid (MbBusy d) i = record { limit = omega arith; decode = zero_time; figure = whole_below busy_limit (lit< tt) i }
 
 module _ (c : TStdConfig) (within : Within replay_limits c) where
   -- what holds of a stream's violation and of the system's holds of an event's

@@ -1,68 +1,45 @@
 -- What a chain finds against the rules of H.222.0, 2.4.2.6, as values in the order of their finding.
 use Rattle.std.specs.Prelude.{ℕ, Bool, true, false, cond, eqb, List, [], ◌∷◌, Float}
 use Rattle.ieee.specs.Binary64.{0f}
-use Rattle.events.specs.declared.EventKind.{EventKind}
-use Rattle.events.specs.declared.EventKind.TheVariants.{Overflow, Underflow, Delay, TbOverflow, TbBusy, MbBusy}
-
-pub data Event : Type 0 where
-  -- the main buffer's fullness, in bytes, is above its size (Bn, MBn or Bsys)
-  overflow : Float → Event
-  -- at a decode time so many bytes of the unit are missing
-  underflow : Float → Float → Event
-  -- at a decode time the unit's first byte is so many seconds old
-  delay : Float → Float → Event
-  -- the transport buffer's fullness, in bytes, is above its size
-  tb_overflow : Float → Event
-  -- the transport buffer was busy for so many seconds
-  tb_busy : Float → Event
-  -- the multiplexing buffer was busy for so many seconds
-  mb_busy : Float → Event
+use Rattle.events.specs.declared.Event.{Event}
+use Rattle.events.specs.declared.Event.TheVariants.{Overflow, Underflow, Delay, TbOverflow, TbBusy, MbBusy}
 
 -- an event where the test holds
 abbrev pub when : Bool → Event → List Event
 when true e = e ∷ []
 when false e = []
 
--- the place of a kind's slot among those of a chain
-abbrev pub place_of : EventKind → ℕ
-place_of Overflow = 0
-place_of Underflow = 1
-place_of Delay = 2
-place_of TbOverflow = 3
-place_of TbBusy = 4
-place_of MbBusy = 5
-
--- the kind of a place: that of `place_of` below 6
-unfoldable pub kind_at : ℕ → EventKind
-kind_at place =
-    cond (eqb place 0) Overflow
-    (cond (eqb place 1) Underflow
-    (cond (eqb place 2) Delay
-    (cond (eqb place 3) TbOverflow
-    (cond (eqb place 4) TbBusy MbBusy))))
-
 -- the kinds, as the slots of a chain have them
 unfoldable pub kind_of : Event → ℕ
-kind_of (overflow b) = place_of Overflow
-kind_of (underflow d b) = place_of Underflow
-kind_of (delay d s) = place_of Delay
-kind_of (tb_overflow b) = place_of TbOverflow
-kind_of (tb_busy s) = place_of TbBusy
-kind_of (mb_busy s) = place_of MbBusy
+kind_of (Overflow b) = 0
+kind_of (Underflow d b) = 1
+kind_of (Delay d s) = 2
+kind_of (TbOverflow b) = 3
+kind_of (TbBusy s) = 4
+kind_of (MbBusy s) = 5
 
 unfoldable pub figure_of : Event → Float
-figure_of (overflow b) = b
-figure_of (underflow d b) = b
-figure_of (delay d s) = s
-figure_of (tb_overflow b) = b
-figure_of (tb_busy s) = s
-figure_of (mb_busy s) = s
+figure_of (Overflow b) = b
+figure_of (Underflow d b) = b
+figure_of (Delay d s) = s
+figure_of (TbOverflow b) = b
+figure_of (TbBusy s) = s
+figure_of (MbBusy s) = s
 
 -- 0 for an event that has no decode time
 unfoldable pub decode_of : Event → Float
-decode_of (overflow b) = 0f
-decode_of (underflow d b) = d
-decode_of (delay d s) = d
-decode_of (tb_overflow b) = 0f
-decode_of (tb_busy s) = 0f
-decode_of (mb_busy s) = 0f
+decode_of (Overflow b) = 0f
+decode_of (Underflow d b) = d
+decode_of (Delay d s) = d
+decode_of (TbOverflow b) = 0f
+decode_of (TbBusy s) = 0f
+decode_of (MbBusy s) = 0f
+
+-- the event of a kind: that of `kind_of`, `figure_of` and `decode_of` below 6
+unfoldable pub event_of : ℕ → Float → Float → Event
+event_of kind figure decode =
+    cond (eqb kind 0) (Overflow figure)
+    (cond (eqb kind 1) (Underflow decode figure)
+    (cond (eqb kind 2) (Delay decode figure)
+    (cond (eqb kind 3) (TbOverflow figure)
+    (cond (eqb kind 4) (TbBusy figure) (MbBusy figure)))))

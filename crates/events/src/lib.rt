@@ -1,54 +1,98 @@
 // What is kept of the events of a replay: for each kind of event of a chain a slot.
 #![tactic(auto)]
 
-ghost use Rattle.std.specs.Prelude.{◌≡◌, ◌+◌};
-ghost use Rattle.events.specs.Event.{place_of, kind_at};
-ghost use Rattle.events.specs.Slots.{no_events, noted, noted_if};
+ghost use Rattle.std.specs.Prelude.{◌≡◌};
+ghost use Rattle.events.specs.Event.{when, kind_of, event_of, figure_of, decode_of};
+ghost use Rattle.events.specs.Slots.{no_events, noted, noted_all};
 
-// The kinds of a chain's events, in the order of their slots.
-#[derive(Clone, Copy, Debug, PartialEq, Eq)]
-pub enum EventKind {
-    Overflow,
-    Underflow,
-    Delay,
-    TbOverflow,
-    TbBusy,
-    MbBusy,
+// What a chain finds against the rules of H.222.0, 2.4.2.6: the kinds in the order of their slots. Bytes are floats, as the buffers count them.
+#[derive(Clone, Copy)]
+pub enum Event {
+    // the main buffer's fullness, in bytes, is above its size (Bn, MBn or Bsys)
+    Overflow(f64),
+    // at a decode time so many bytes of the unit are missing
+    Underflow { decode_time: f64, missing: f64 },
+    // at a decode time the unit's first byte is so many seconds old
+    Delay { decode_time: f64, seconds: f64 },
+    // the transport buffer's fullness, in bytes, is above its size
+    TbOverflow(f64),
+    // the transport buffer was busy for so many seconds
+    TbBusy(f64),
+    // the multiplexing buffer was busy for so many seconds
+    MbBusy(f64),
 }
 
-impl EventKind {
-    // Its place among the slots of a chain. Ruled out: two kinds in one slot; a place past 5.
-    #[tactic(auto, unfolding(crate::specs::Event::place_of))]
+impl Event {
+    // The place of its kind's slot among those of a chain. Ruled out: two kinds in one slot; a place past 5.
+    #[tactic(auto, unfolding(crate::specs::Event::kind_of))]
     pub fn place(self) -> usize
-        ensures { result ≡ place_of self }
+        ensures { result ≡ kind_of self }
     {
-        self as usize
+        match self {
+            Event::Overflow(_) => 0,
+            Event::Underflow { .. } => 1,
+            Event::Delay { .. } => 2,
+            Event::TbOverflow(_) => 3,
+            Event::TbBusy(_) => 4,
+            Event::MbBusy(_) => 5,
+        }
     }
 
-    // The kind whose place it is. Ruled out: two places below 6 with one kind; another kind than MbBusy past 5.
-    #[tactic(auto, unfolding(crate::specs::Event::kind_at))]
-    pub fn at(place: usize) -> EventKind
-        ensures { result ≡ kind_at place }
+    // The event of a slot's place, figure and decode time. Ruled out: two places below 6 with one kind; another kind than MbBusy past 5.
+    #[tactic(auto, unfolding(crate::specs::Event::event_of))]
+    pub fn at(place: usize, figure: f64, decode_time: f64) -> Event
+        ensures { result ≡ event_of place figure decode_time }
     {
         match place {
-            0 => EventKind::Overflow,
-            1 => EventKind::Underflow,
-            2 => EventKind::Delay,
-            3 => EventKind::TbOverflow,
-            4 => EventKind::TbBusy,
-            _ => EventKind::MbBusy,
+            0 => Event::Overflow(figure),
+            1 => Event::Underflow {
+                decode_time,
+                missing: figure,
+            },
+            2 => Event::Delay {
+                decode_time,
+                seconds: figure,
+            },
+            3 => Event::TbOverflow(figure),
+            4 => Event::TbBusy(figure),
+            _ => Event::MbBusy(figure),
+        }
+    }
+
+    // What of it is kept as the largest: bytes, or seconds. Ruled out: a decode time in its place; 0 for a kind without decode time.
+    #[tactic(auto, unfolding(crate::specs::Event::figure_of))]
+    pub fn figure(self) -> f64
+        ensures { result ≡ figure_of self }
+    {
+        match self {
+            Event::Overflow(bytes) | Event::TbOverflow(bytes) => bytes,
+            Event::Underflow { missing, .. } => missing,
+            Event::Delay { seconds, .. } => seconds,
+            Event::TbBusy(seconds) | Event::MbBusy(seconds) => seconds,
+        }
+    }
+
+    // 0 for an event that has no decode time.
+    #[tactic(auto, unfolding(crate::specs::Event::decode_of))]
+    fn decode_time(self) -> f64
+        ensures { result ≡ decode_of self }
+    {
+        match self {
+            Event::Underflow { decode_time, .. } | Event::Delay { decode_time, .. } => decode_time,
+            _ => 0.0,
         }
     }
 }
 
-// firsts[0] counts the events. Slot k, from 1 to 63, has the number of its first event in firsts[k] (0: none yet), its largest
-// figure in figures[k], and the decode time of its first event in figures[64 + k]. Two lists and not one of structs, since the report
-// asks the list of first numbers alone for the order of the slots (`next_slot` and `first_slots` in `summary`): with structs each
-// would have to take the numbers out first.
+// The count of the events, and of slot k, from 1 to 63, the number of its first event in firsts[k] (0: none yet), its largest figure in
+// figures[k], and the decode time of its first event in decode_times[k]; index 0 is no slot's. Lists and not one of structs, since the order
+// of the slots goes by the first numbers alone: `first_slots` and `NextSlot` in `summary`, and their laws, are over that list.
 #[derive(Clone, Copy)]
 pub struct Slots {
+    pub events: u64,
     pub firsts: [u64; 64],
-    pub figures: [f64; 128],
+    pub figures: [f64; 64],
+    pub decode_times: [f64; 64],
 }
 
 impl Slots {
@@ -57,56 +101,40 @@ impl Slots {
         ensures { result ≡ no_events }
     {
         Slots {
+            events: 0,
             firsts: [0; 64],
-            figures: [0.0; 128],
+            figures: [0.0; 64],
+            decode_times: [0.0; 64],
         }
     }
 
-    // Figure and decode time are two parameters, here and below: an event is noted where its figure is worked out, and a struct made there would
-    // be taken apart into the two lists at once.
     // One event in slot k; where there is no such slot, or the count is at its end, nothing changes.
-    // Ruled out: a later, smaller figure in the place of the largest; the decode time of a later event.
     #[tactic(auto, using(crate::proofs::Noted::noted_none, crate::proofs::Noted::noted_past, crate::proofs::Noted::noted_end))]
-    pub fn note(&mut self, k: usize, figure: f64, decode: f64)
-        ensures { self.new ≡ noted k figure decode self.old }
+    fn note(&mut self, k: usize, event: Event)
+        ensures { self.new ≡ noted k (figure_of event) (decode_of event) self.old }
     {
-        if k == 0 || k > 63 || self.firsts[0] == u64::MAX {
+        if k == 0 || k > 63 || self.events == u64::MAX {
             return;
         }
-        let event = self.firsts[0] + 1;
-        self.firsts[0] = event;
+        self.events = self.events + 1;
         if self.firsts[k] == 0 {
-            self.firsts[k] = event;
-            self.figures[k] = figure;
-            self.figures[64 + k] = decode;
+            self.firsts[k] = self.events;
+            self.figures[k] = event.figure();
+            self.decode_times[k] = event.decode_time();
         } else {
-            self.figures[k] = ieee::max_num(self.figures[k], figure);
+            self.figures[k] = ieee::max_num(self.figures[k], event.figure());
         }
     }
 
-    // The same where the event was found. Ruled out: an event noted that was not found; one found and not counted.
-    #[tactic(auto, unfolding(crate::specs::Slots::noted_if))]
-    pub fn note_if(&mut self, found: bool, k: usize, figure: f64, decode: f64)
-        ensures { self.new ≡ noted_if found k figure decode self.old }
+    // Where the event was found, it goes to its slot of the chain whose slots begin at k. The test is a parameter, as in std's `bool::then`,
+    // since up to three events are noted one behind the other, each with a test of its own. Ruled out: an event noted that was not found, or
+    // one found and not counted; a later, smaller figure in the place of the largest, or the decode time of a later event.
+    #[tactic(auto, unfolding(crate::specs::Slots::noted_all), using(crate::proofs::Noted::noted_when_lem))]
+    pub fn note_when(&mut self, found: bool, k: usize, event: Event)
+        ensures { self.new ≡ noted_all k (when found event) self.old }
     {
         if found {
-            self.note(k, figure, decode);
+            self.note(k.saturating_add(event.place()), event);
         }
-    }
-
-    // The same for a kind of the chain whose slots begin at chain_k. The test is a parameter, as in std's `bool::then`, since up to three
-    // events are noted one behind the other, each with a test of its own. Ruled out: the event in the slot of another kind; a chain_k near
-    // its type's end that comes round to a slot.
-    pub fn note_kind_if(
-        &mut self,
-        found: bool,
-        chain_k: usize,
-        kind: EventKind,
-        figure: f64,
-        decode: f64,
-    )
-        ensures { self.new ≡ noted_if found (chain_k + place_of kind) figure decode self.old }
-    {
-        self.note_if(found, chain_k.saturating_add(kind.place()), figure, decode);
     }
 }

@@ -1,7 +1,8 @@
 -- What holds of both values of a choice holds of the chosen one; and the event of a test. Assumes nothing.
 use mathlib.Core.Path.{◌≡◌, refl}
 use mathlib.Core.Bool.{Bool, true, false, cond}
-use Rattle.events.specs.Event.{Event, when}
+use Rattle.events.specs.declared.Event.{Event}
+use Rattle.events.specs.Event.{when}
 use Rattle.report.specs.Record.{Each}
 
 pub either : {A : Type 0} (P : A → Type 0) (b : Bool) (x y : A) → P x → P y → P (cond b x y)

@@ -9,7 +9,9 @@ use lib.Ieee.Fits.{sub-fits}
 use Rattle.ieee.specs.Binary64.{◌⊕◌, ◌⊖◌, 1f, 512f, 1536f, 1e-6f}
 use Rattle.ieee.proofs.Order.{to_t}
 use Rattle.fifo.specs.declared.FluidFifo.{FluidFifo}
-use Rattle.events.specs.Event.{Event, overflow, delay, tb_overflow, tb_busy, mb_busy, when}
+use Rattle.events.specs.declared.Event.{Event}
+use Rattle.events.specs.declared.Event.TheVariants.{Overflow, Delay, TbOverflow, TbBusy, MbBusy}
+use Rattle.events.specs.Event.{when}
 use Rattle.branch.specs.declared.Run.{Run}
 use Rattle.branch.specs.declared.AccessUnit.{AccessUnit}
 use Rattle.branch.specs.declared.sys_branch.SysBranch.{SysBranch}
@@ -37,21 +39,21 @@ over_second x f e = above_threshold (1f ⊕ 1e-6f) x tt (to_t e) f
 
 -- the age of a unit is a difference
 pub delay_above : (u : AccessUnit)
-    → AllAbove (when (lt (1f ⊕ 1e-6f) (u.decode_time ⊖ u.first_input_time)) (delay u.decode_time (u.decode_time ⊖ u.first_input_time)))
+    → AllAbove (when (lt (1f ⊕ 1e-6f) (u.decode_time ⊖ u.first_input_time)) (Delay u.decode_time (u.decode_time ⊖ u.first_input_time)))
 delay_above u =
     let age = u.decode_time ⊖ u.first_input_time in
-    each_when SecondsAboveZero (lt (1f ⊕ 1e-6f) age) (delay u.decode_time age) (over_second age (sub-fits binary64 u.decode_time u.first_input_time))
+    each_when SecondsAboveZero (lt (1f ⊕ 1e-6f) age) (Delay u.decode_time age) (over_second age (sub-fits binary64 u.decode_time u.first_input_time))
 
-pub mb_busy_above : (x : Float) → T (fits binary64 x) → AllAbove (when (lt (1f ⊕ 1e-6f) x) (mb_busy x))
-mb_busy_above x h = each_when SecondsAboveZero (lt (1f ⊕ 1e-6f) x) (mb_busy x) (over_second x h)
+pub mb_busy_above : (x : Float) → T (fits binary64 x) → AllAbove (when (lt (1f ⊕ 1e-6f) x) (MbBusy x))
+mb_busy_above x h = each_when SecondsAboveZero (lt (1f ⊕ 1e-6f) x) (MbBusy x) (over_second x h)
 
 pub tb_above : (f : FluidFifo) → T (fits binary64 f.longest_busy) → AllAbove (tb_events f)
 unfolding tb_events
 tb_above f h =
-    both_above (when (lt (512f ⊕ 1f) f.peak) (tb_overflow f.peak)) (when (lt (1f ⊕ 1e-6f) f.longest_busy) (tb_busy f.longest_busy))
-    (each_when SecondsAboveZero (lt (512f ⊕ 1f) f.peak) (tb_overflow f.peak) (λ e. tt))
-    (each_when SecondsAboveZero (lt (1f ⊕ 1e-6f) f.longest_busy) (tb_busy f.longest_busy) (over_second f.longest_busy h))
+    both_above (when (lt (512f ⊕ 1f) f.peak) (TbOverflow f.peak)) (when (lt (1f ⊕ 1e-6f) f.longest_busy) (TbBusy f.longest_busy))
+    (each_when SecondsAboveZero (lt (512f ⊕ 1f) f.peak) (TbOverflow f.peak) (λ e. tt))
+    (each_when SecondsAboveZero (lt (1f ⊕ 1e-6f) f.longest_busy) (TbBusy f.longest_busy) (over_second f.longest_busy h))
 
 pub sys_above : (s : SysBranch) (r : Run) (rsys : Float) → AllAbove (sys_events s r rsys)
 unfolding sys_events
-sys_above s r rsys = each_when SecondsAboveZero (lt (1536f ⊕ 1f) (filled s r rsys)) (overflow (filled s r rsys)) (λ e. tt)
+sys_above s r rsys = each_when SecondsAboveZero (lt (1536f ⊕ 1f) (filled s r rsys)) (Overflow (filled s r rsys)) (λ e. tt)

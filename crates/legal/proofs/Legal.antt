@@ -17,7 +17,7 @@ use Rattle.arrival.specs.Times.{covering, arrival_at}
 use Rattle.fifo.specs.FluidFifo.{pushed}
 use Rattle.branch.specs.declared.Run.{Run}
 use Rattle.branch.specs.SysBranch.{rsys_of, sys_events}
-use Rattle.events.specs.Event.{Event}
+use Rattle.events.specs.declared.Event.{Event}
 use Rattle.report.specs.Record.{Each}
 use Rattle.profile.specs.declared.config.TStdStream.{TStdStream}
 use Rattle.profile.specs.declared.config.TStdConfig.{TStdConfig}

@@ -5,7 +5,8 @@ use mathlib.Core.Bool.{Bool, true, false}
 use mathlib.Core.List.{List, [], ◌∷◌}
 use lib.Ieee.{Float, lt}
 use Rattle.ieee.specs.Binary64.{◌⊕◌, ◌⊖◌, +∞, 1f}
-use Rattle.events.specs.Event.{overflow, underflow, when}
+use Rattle.events.specs.declared.Event.TheVariants.{Overflow, Underflow}
+use Rattle.events.specs.Event.{when}
 use Rattle.branch.specs.declared.AccessUnit.{AccessUnit}
 use Rattle.branch.specs.declared.Delivered.{Delivered}
 use Rattle.branch.specs.CumulativeIn.{arrived_by}
@@ -14,15 +15,15 @@ use Rattle.summary.specs.Violation.{SecondsAboveZero}
 use Rattle.legal.proofs.Cases.{each_when}
 use Rattle.legal.proofs.Events.{AllAbove, none_above, both_above, delay_above}
 
-overflow_above : (size x : Float) → AllAbove (when (lt (size ⊕ 1f) x) (overflow x))
-overflow_above size x = each_when SecondsAboveZero (lt (size ⊕ 1f) x) (overflow x) (λ e. tt)
+overflow_above : (size x : Float) → AllAbove (when (lt (size ⊕ 1f) x) (Overflow x))
+overflow_above size x = each_when SecondsAboveZero (lt (size ⊕ 1f) x) (Overflow x) (λ e. tt)
 
 removal_above : (size arrived fullness required : Float) (u : AccessUnit) → AllAbove (removal_events size arrived fullness required u)
 unfolding removal_events
 removal_above size arrived fullness required u =
-    both_above (when (lt (size ⊕ 1f) fullness) (overflow fullness)) _ (overflow_above size fullness)
-    (both_above (when (lt (arrived ⊕ 1f) required) (underflow u.decode_time (required ⊖ arrived))) _
-    (each_when SecondsAboveZero (lt (arrived ⊕ 1f) required) (underflow u.decode_time (required ⊖ arrived)) (λ e. tt))
+    both_above (when (lt (size ⊕ 1f) fullness) (Overflow fullness)) _ (overflow_above size fullness)
+    (both_above (when (lt (arrived ⊕ 1f) required) (Underflow u.decode_time (required ⊖ arrived))) _
+    (each_when SecondsAboveZero (lt (arrived ⊕ 1f) required) (Underflow u.decode_time (required ⊖ arrived)) (λ e. tt))
     (delay_above u))
 
 remove_above : (size : Float) (b : Main) (u : AccessUnit) → AllAbove (remove_events size b u)

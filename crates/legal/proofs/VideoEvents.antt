@@ -5,7 +5,8 @@ use mathlib.Core.Bool.{Bool, true, false}
 use mathlib.Core.List.{List, [], ◌∷◌, ◌++◌}
 use lib.Ieee.{Float, lt, le, eq}
 use Rattle.ieee.specs.Binary64.{◌⊕◌, ◌⊖◌, -∞, 1f}
-use Rattle.events.specs.Event.{overflow, underflow, when}
+use Rattle.events.specs.declared.Event.TheVariants.{Overflow, Underflow}
+use Rattle.events.specs.Event.{when}
 use Rattle.branch.specs.declared.AccessUnit.{AccessUnit}
 use Rattle.branch.specs.declared.Delivered.{Delivered}
 use Rattle.branch.specs.VideoBranch.{VideoRates, Leak, Video, mb_fullness, ran, leak_events, remove_unit, remove_events, advance_from, advance, drain_time, finish_video}
@@ -22,16 +23,16 @@ module _ (r : VideoRates) where
   unfolding leak_events
   leak_above t s =
       let x = mb_fullness (ran r t s) t in
-      either AllAbove (eq s.proc_time -∞) [] (when (lt (r.mb_size ⊕ 1f) x) (overflow x)) none_above
-      (each_when SecondsAboveZero (lt (r.mb_size ⊕ 1f) x) (overflow x) (λ e. tt))
+      either AllAbove (eq s.proc_time -∞) [] (when (lt (r.mb_size ⊕ 1f) x) (Overflow x)) none_above
+      (each_when SecondsAboveZero (lt (r.mb_size ⊕ 1f) x) (Overflow x) (λ e. tt))
 
   remove_above : (v : Video) (u : AccessUnit) → AllAbove (remove_events v u)
   unfolding remove_events
   remove_above v u =
       let required = v.eb_required ⊕ u.bytes in
       let arrived = v.leak.flow.eb_in in
-      both_above (when (lt (arrived ⊕ 1f) required) (underflow u.decode_time (required ⊖ arrived))) _
-      (each_when SecondsAboveZero (lt (arrived ⊕ 1f) required) (underflow u.decode_time (required ⊖ arrived)) (λ e. tt))
+      both_above (when (lt (arrived ⊕ 1f) required) (Underflow u.decode_time (required ⊖ arrived))) _
+      (each_when SecondsAboveZero (lt (arrived ⊕ 1f) required) (Underflow u.decode_time (required ⊖ arrived)) (λ e. tt))
       (delay_above u)
 
   from_by : (f : Float) (u : AccessUnit) (us : List AccessUnit) (v : Video) (z : Bool) → le u.decode_time f ≡ z

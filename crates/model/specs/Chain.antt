@@ -8,7 +8,9 @@ use Rattle.scanner.specs.declared.Runs.{Runs}
 use Rattle.arrival.specs.declared.RateInterval.{RateInterval}
 use Rattle.fifo.specs.declared.FluidFifo.{FluidFifo}
 use Rattle.fifo.specs.FluidFifo.{new}
-use Rattle.events.specs.Event.{Event, tb_overflow, tb_busy, when}
+use Rattle.events.specs.declared.Event.{Event}
+use Rattle.events.specs.declared.Event.TheVariants.{TbOverflow, TbBusy}
+use Rattle.events.specs.Event.{when}
 use Rattle.branch.specs.declared.Delivered.{Delivered}
 use Rattle.branch.specs.MainBranch.{Main, new_main, main_step}
 use Rattle.branch.specs.VideoStep.{VideoChain, new_video, video_step}
@@ -63,8 +65,8 @@ packet_step s depth h r t0 t1 i c =
 -- the transport buffer's rules, looked at a single time when the packets are through
 unfoldable pub tb_events : FluidFifo → List Event
 tb_events tb =
-    when (lt (512f ⊕ 1f) tb.peak) (tb_overflow tb.peak)
-    ++ when (lt (1f ⊕ 1e-6f) tb.longest_busy) (tb_busy tb.longest_busy)
+    when (lt (512f ⊕ 1f) tb.peak) (TbOverflow tb.peak)
+    ++ when (lt (1f ⊕ 1e-6f) tb.longest_busy) (TbBusy tb.longest_busy)
 
 -- the end: the open unit is closed, the transport buffer looked at, then the branch finished
 unfoldable pub end_step : TStdStream → ℕ → Chain → ChainStep

@@ -18,7 +18,7 @@ use Rattle.fifo.specs.FluidFifo.{new, pushed}
 use Rattle.branch.specs.declared.Run.{Run}
 use Rattle.branch.specs.declared.sys_branch.SysBranch.{SysBranch}
 use Rattle.branch.specs.SysBranch.{new_sys, rsys_of, push_sys, sys_events}
-use Rattle.events.specs.Event.{Event}
+use Rattle.events.specs.declared.Event.{Event}
 use Rattle.report.specs.declared.TStdReport.{TStdReport}
 use Rattle.report.specs.declared.TStdChainStats.{TStdChainStats}
 use Rattle.report.specs.Report.{empty_report}

@@ -22,7 +22,8 @@ use Rattle.arrival.proofs.Within.{covering_within}
 use Rattle.fifo.specs.declared.FluidFifo.{FluidFifo}
 use Rattle.fifo.specs.Bounds.{Bounded}
 use Rattle.fifo.proofs.Bounds.{new_bounded, longest_recording, peak_below}
-use Rattle.events.specs.Event.{Event, tb_overflow, tb_busy}
+use Rattle.events.specs.declared.Event.{Event}
+use Rattle.events.specs.declared.Event.TheVariants.{TbOverflow, TbBusy}
 use Rattle.branch.specs.declared.Delivered.{Delivered}
 use Rattle.branch.specs.MainBranch.{new_main}
 use Rattle.branch.specs.VideoStep.{new_video}
@@ -50,13 +51,13 @@ use Rattle.model_bounds.proofs.VideoStep.{video_more, video_packet, video_end}
 pub tb_events_lem : {n : ℕ} {f : FluidFifo} → Bounded n f → n ≤ 2 ^ 24 → EventsIn (tb_events f)
 unfolding tb_events le
 tb_events_lem {n} {f} b h =
-    events_append (events_when (lt (512f ⊕ 1f) f.peak) (tb_overflow f.peak) (λ e. b.peak))
-    (events_when (lt (1f ⊕ 1e-6f) f.longest_busy) (tb_busy f.longest_busy) (λ e. widen_high (plain longest_window) (longest_recording n h b.longest_busy) tt))
+    events_append (events_when (lt (512f ⊕ 1f) f.peak) (TbOverflow f.peak) (λ e. b.peak))
+    (events_when (lt (1f ⊕ 1e-6f) f.longest_busy) (TbBusy f.longest_busy) (λ e. widen_high (plain longest_window) (longest_recording n h b.longest_busy) tt))
 
 pub tb_events_few : (f : FluidFifo) → AtMost 2 (tb_events f)
 unfolding tb_events
 tb_events_few f =
-    at_most_append (at_most_when (lt (512f ⊕ 1f) f.peak) (tb_overflow f.peak)) (at_most_when (lt (1f ⊕ 1e-6f) f.longest_busy) (tb_busy f.longest_busy))
+    at_most_append (at_most_when (lt (512f ⊕ 1f) f.peak) (TbOverflow f.peak)) (at_most_when (lt (1f ⊕ 1e-6f) f.longest_busy) (TbBusy f.longest_busy))
 
 -- ---- a new chain
 branch_new : (pid rx : ℕ) (b : TStdBranch) → BranchHolds b 0 (new_chain (record { pid = pid; model = record { rx_bps = rx; branch = b } })).branch

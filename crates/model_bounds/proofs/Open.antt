@@ -15,7 +15,7 @@ use Rattle.branch.specs.declared.AccessUnit.{AccessUnit}
 use Rattle.branch.specs.declared.Delivered.{Delivered}
 use Rattle.branch.specs.declared.Run.{Run}
 use Rattle.branch.specs.MainBranch.{grown, stamp_of}
-use Rattle.events.specs.Event.{Event}
+use Rattle.events.specs.declared.Event.{Event}
 use Rattle.bounds.specs.Events.{FewEvents}
 use Rattle.bounds.specs.Runs.{RunIs, byte_limit}
 use Rattle.bounds.specs.Units.{UnitIs}

@@ -14,7 +14,8 @@ use Rattle.report.specs.Record.{record_line, record_lines, lines_of, record_all,
 use Rattle.report.specs.Keys.{all_in}
 use Rattle.report.proofs.Fold.{lines_all, events_all, unused_all, samples_all, seconds_all}
 use Rattle.profile.specs.declared.config.TStdConfig.{TStdConfig}
-use Rattle.events.specs.Event.{Event, figure_of, decode_of}
+use Rattle.events.specs.declared.Event.{Event}
+use Rattle.events.specs.Event.{figure_of, decode_of}
 use Rattle.events.specs.declared.Slots.{Slots}
 use Rattle.events.specs.Slots.{noted, noted_all}
 use Rattle.summary.specs.Violation.{violation_of, slot_of, slot_violation}
@@ -99,11 +100,11 @@ module _ (c : TStdConfig) where
 
   slots_length : (s : Slots) → length (slot_violations c s) ≤ count_of s
   unfolding slot_violations
-  slots_length s = rw (length-map (first_slots s.firsts (count_of s)) (violation_in c s.figures)) (slots_few s.firsts (count_of s))
+  slots_length s = rw (length-map (first_slots s.firsts (count_of s)) (violation_in c s)) (slots_few s.firsts (count_of s))
 
   slots_possible : length c.streams ≡ 8 → (s : Slots) → all_in (possible_keys c) (event_keys (slot_violations c s)) ≡ true
   unfolding slot_violations
-  slots_possible whole s = possible_slots c whole s.figures (first_slots s.firsts (count_of s))
+  slots_possible whole s = possible_slots c whole s (first_slots s.firsts (count_of s))
 
   -- the slots' violations too make at most 51 lines
   pub summary_51 : (whole : length c.streams ≡ 8) (s : Slots) → count_of s ≤ most_events → Recorded51 c whole (slot_violations c s)

@@ -22,8 +22,11 @@ use Rattle.profile.specs.declared.model.TStdBranch.TheVariants.{Main, Video}
 use Rattle.profile.specs.declared.config.TStdStream.{TStdStream}
 use Rattle.profile.specs.declared.config.TStdConfig.{TStdConfig}
 use Rattle.profile.specs.Config.{unused_stream}
-use Rattle.events.specs.Event.{Event, overflow, underflow, delay, tb_overflow, tb_busy, mb_busy}
-use Rattle.summary.specs.Violation.{overflow_in, underflow_in, stream_violation, system_violation, system_pid, violation_of, event_of, slot_violation}
+use Rattle.events.specs.declared.Event.{Event}
+use Rattle.events.specs.declared.Slots.{Slots}
+use Rattle.events.specs.Event.{event_of}
+use Rattle.events.specs.declared.Event.TheVariants.{Overflow, Underflow, Delay, TbOverflow, TbBusy, MbBusy}
+use Rattle.summary.specs.Violation.{overflow_in, underflow_in, chain_violation, stream_violation, system_violation, system_pid, violation_of, slot_violation}
 use Rattle.summary.specs.Summary.{Found, violations_of, violation_in}
 use Rattle.summary.specs.Keys.{key, overflow_kind, underflow_kind, stream_keys, system_keys, keys_of_streams, possible_keys}
 
@@ -73,22 +76,22 @@ underflow_key (Main size) pid t n = refl
 underflow_key (Video rbx mb eb) pid t n = refl
 
 pub stream_key : (s : TStdStream) (e : Event) → has_key (stream_keys s) (key_of (stream_violation s e)) ≡ true
-unfolding stream_keys stream_violation key_of fields_of
-stream_key s (overflow b) = has_at (stream_keys s) 0 (key 0 0) _ (omega arith) (sym (overflow_key s.model.branch s.pid _))
-stream_key s (underflow t b) = has_at (stream_keys s) 1 (key 0 0) _ (omega arith) (sym (underflow_key s.model.branch s.pid t _))
-stream_key s (delay t d) = has_at (stream_keys s) 2 (key 0 0) _ (omega arith) refl
-stream_key s (tb_overflow b) = has_at (stream_keys s) 3 (key 0 0) _ (omega arith) refl
-stream_key s (tb_busy d) = has_at (stream_keys s) 4 (key 0 0) _ (omega arith) refl
-stream_key s (mb_busy d) = has_at (stream_keys s) 5 (key 0 0) _ (omega arith) refl
+unfolding stream_keys chain_violation key_of fields_of
+stream_key s (Overflow b) = has_at (stream_keys s) 0 (key 0 0) _ (omega arith) (sym (overflow_key s.model.branch s.pid _))
+stream_key s (Underflow t b) = has_at (stream_keys s) 1 (key 0 0) _ (omega arith) (sym (underflow_key s.model.branch s.pid t _))
+stream_key s (Delay t d) = has_at (stream_keys s) 2 (key 0 0) _ (omega arith) refl
+stream_key s (TbOverflow b) = has_at (stream_keys s) 3 (key 0 0) _ (omega arith) refl
+stream_key s (TbBusy d) = has_at (stream_keys s) 4 (key 0 0) _ (omega arith) refl
+stream_key s (MbBusy d) = has_at (stream_keys s) 5 (key 0 0) _ (omega arith) refl
 
 pub system_key : (pid : ℕ) (e : Event) → has_key (system_keys pid) (key_of (system_violation pid e)) ≡ true
-unfolding system_violation key_of fields_of
-system_key pid (overflow b) = has_at (system_keys pid) 0 (key 0 0) _ (omega arith) refl
-system_key pid (underflow t b) = has_at (system_keys pid) 0 (key 0 0) _ (omega arith) refl
-system_key pid (delay t d) = has_at (system_keys pid) 0 (key 0 0) _ (omega arith) refl
-system_key pid (tb_overflow b) = has_at (system_keys pid) 1 (key 0 0) _ (omega arith) refl
-system_key pid (tb_busy d) = has_at (system_keys pid) 2 (key 0 0) _ (omega arith) refl
-system_key pid (mb_busy d) = has_at (system_keys pid) 0 (key 0 0) _ (omega arith) refl
+unfolding chain_violation key_of fields_of
+system_key pid (Overflow b) = has_at (system_keys pid) 0 (key 0 0) _ (omega arith) refl
+system_key pid (Underflow t b) = has_at (system_keys pid) 0 (key 0 0) _ (omega arith) refl
+system_key pid (Delay t d) = has_at (system_keys pid) 0 (key 0 0) _ (omega arith) refl
+system_key pid (TbOverflow b) = has_at (system_keys pid) 1 (key 0 0) _ (omega arith) refl
+system_key pid (TbBusy d) = has_at (system_keys pid) 2 (key 0 0) _ (omega arith) refl
+system_key pid (MbBusy d) = has_at (system_keys pid) 0 (key 0 0) _ (omega arith) refl
 
 -- ---- the keys of a configuration
 
@@ -131,10 +134,10 @@ module _ (c : TStdConfig) (whole : length c.streams ≡ 8) where
   possible_all (f ∷ fs) = and_from (has_key (possible_keys c) (key_of (violation_of c f.chain f.event))) _ (possible_key f.chain f.event) (possible_all fs)
 
   -- a slot's violations are those of an event of its chain
-  pub possible_slots : (figures : List Float) (ks : List ℕ) → all_in (possible_keys c) (event_keys (map (violation_in c figures) ks)) ≡ true
+  pub possible_slots : (s : Slots) (ks : List ℕ) → all_in (possible_keys c) (event_keys (map (violation_in c s) ks)) ≡ true
   unfolding all_in event_keys slot_violation
-  possible_slots figures [] = refl
-  possible_slots figures (k ∷ ks) = and_from (has_key (possible_keys c) (key_of (violation_in c figures k))) _ (possible_key ((k - 1) / 6) (event_of ((k - 1) % 6) (get_or figures k nan) (get_or figures (64 + k) nan))) (possible_slots figures ks)
+  possible_slots s [] = refl
+  possible_slots s (k ∷ ks) = and_from (has_key (possible_keys c) (key_of (violation_in c s k))) _ (possible_key ((k - 1) / 6) (event_of ((k - 1) % 6) (get_or s.figures k nan) (get_or s.decode_times k nan))) (possible_slots s ks)
 
   -- what is known of a report that events of possible keys have made
   pub record Recorded51 (vs : List TStdViolation) : Type 0 where

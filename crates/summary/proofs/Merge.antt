@@ -22,10 +22,10 @@ use Rattle.profile.specs.declared.model.TStdBranch.TheVariants.{Main, Video}
 use Rattle.profile.specs.declared.config.TStdStream.{TStdStream}
 use Rattle.profile.specs.declared.config.TStdConfig.{TStdConfig}
 use Rattle.profile.specs.Config.{unused_stream}
-use Rattle.events.specs.declared.EventKind.TheVariants.{Overflow, Underflow, Delay, TbOverflow as TbOverflowKind, TbBusy, MbBusy}
-use Rattle.events.specs.Event.{Event, overflow, underflow, delay, tb_overflow, tb_busy, mb_busy, kind_of, figure_of, decode_of, kind_at}
-use Rattle.summary.specs.Kinds.{event_in}
-use Rattle.summary.specs.Violation.{whole_bytes, overflow_in, underflow_in, stream_violation, system_violation, system_pid, violation_of, event_of, slot_of, slot_violation, AboveZero, SecondsAboveZero}
+use Rattle.events.specs.declared.Event.{Event}
+use Rattle.events.specs.declared.Event.TheVariants.{Overflow, Underflow, Delay, TbOverflow as TbOverflowEvent, TbBusy, MbBusy}
+use Rattle.events.specs.Event.{kind_of, figure_of, decode_of, event_of}
+use Rattle.summary.specs.Violation.{whole_bytes, overflow_in, underflow_in, chain_violation, stream_violation, system_violation, system_pid, violation_of, slot_of, slot_violation, AboveZero, SecondsAboveZero}
 
 -- ---- what the violations of a slot have in common, whatever figure and decode time it has
 
@@ -80,11 +80,11 @@ unfolding key_of fields_of with_figure
 bsys_form = formed _ (λ x t y u. refl) (λ x t. refl) (λ x t y. refl)
 
 -- what holds of each kind of event holds of the events of any slot
-by_kind : (P : (Float → Float → Event) → Type 0) → P (λ x t. overflow x) → P (λ x t. underflow t x) → P (λ x t. delay t x) → P (λ x t. tb_overflow x) → P (λ x t. tb_busy x) → P (λ x t. mb_busy x) → (kind : ℕ) → P (event_of kind)
-unfolding event_of kind_at
+by_kind : (P : (Float → Float → Event) → Type 0) → P (λ x t. Overflow x) → P (λ x t. Underflow t x) → P (λ x t. Delay t x) → P (λ x t. TbOverflowEvent x) → P (λ x t. TbBusy x) → P (λ x t. MbBusy x) → (kind : ℕ) → P (event_of kind)
+unfolding event_of
 by_kind P p₀ p₁ p₂ p₃ p₄ p₅ kind = go (eqb kind 0) (eqb kind 1) (eqb kind 2) (eqb kind 3) (eqb kind 4)
   where
-    go : (a b c d e : Bool) → P (event_in (cond a Overflow (cond b Underflow (cond c Delay (cond d TbOverflowKind (cond e TbBusy MbBusy))))))
+    go : (a b c d e : Bool) → P (λ x t. cond a (Overflow x) (cond b (Underflow t x) (cond c (Delay t x) (cond d (TbOverflowEvent x) (cond e (TbBusy x) (MbBusy x))))))
     go true b c d e = p₀
     go false true c d e = p₁
     go false false true d e = p₂
@@ -95,25 +95,25 @@ by_kind P p₀ p₁ p₂ p₃ p₄ p₅ kind = go (eqb kind 0) (eqb kind 1) (eqb
 -- the six kinds, and an event back from its parts
 pub kind_few : (e : Event) → kind_of e < 6
 unfolding kind_of
-kind_few (overflow b) = omega arith
-kind_few (underflow t b) = omega arith
-kind_few (delay t d) = omega arith
-kind_few (tb_overflow b) = omega arith
-kind_few (tb_busy d) = omega arith
-kind_few (mb_busy d) = omega arith
+kind_few (Overflow b) = omega arith
+kind_few (Underflow t b) = omega arith
+kind_few (Delay t d) = omega arith
+kind_few (TbOverflowEvent b) = omega arith
+kind_few (TbBusy d) = omega arith
+kind_few (MbBusy d) = omega arith
 
 event_back : (e : Event) → event_of (kind_of e) (figure_of e) (decode_of e) ≡ e
-unfolding event_of kind_at kind_of figure_of decode_of
-event_back (overflow b) = refl
-event_back (underflow t b) = refl
-event_back (delay t d) = refl
-event_back (tb_overflow b) = refl
-event_back (tb_busy d) = refl
-event_back (mb_busy d) = refl
+unfolding event_of kind_of figure_of decode_of
+event_back (Overflow b) = refl
+event_back (Underflow t b) = refl
+event_back (Delay t d) = refl
+event_back (TbOverflowEvent b) = refl
+event_back (TbBusy d) = refl
+event_back (MbBusy d) = refl
 
 module _ (c : TStdConfig) where
   chain_form : (chain kind : ℕ) → Form (λ x t. violation_of c chain (event_of kind x t))
-  unfolding violation_of stream_violation system_violation
+  unfolding violation_of chain_violation
   chain_form chain kind = by_chain (ltb chain 8)
     where
       by_chain : (b : Bool) → Form (λ x t. cond b (stream_violation (get_or c.streams chain unused_stream) (event_of kind x t)) (system_violation (system_pid c) (event_of kind x t)))
@@ -178,22 +178,22 @@ underflow_above (Main size) pid t n = tt
 underflow_above (Video rbx mb eb) pid t n = tt
 
 stream_above : (s : TStdStream) (e : Event) → SecondsAboveZero e → AboveZeroIn (stream_violation s e)
-unfolding stream_violation fields_of
-stream_above s (overflow b) p = overflow_above s.model.branch s.pid (whole_bytes b)
-stream_above s (underflow t b) p = underflow_above s.model.branch s.pid t (whole_bytes b)
-stream_above s (delay t d) p = p
-stream_above s (tb_overflow b) p = tt
-stream_above s (tb_busy d) p = p
-stream_above s (mb_busy d) p = p
+unfolding chain_violation fields_of
+stream_above s (Overflow b) p = overflow_above s.model.branch s.pid (whole_bytes b)
+stream_above s (Underflow t b) p = underflow_above s.model.branch s.pid t (whole_bytes b)
+stream_above s (Delay t d) p = p
+stream_above s (TbOverflowEvent b) p = tt
+stream_above s (TbBusy d) p = p
+stream_above s (MbBusy d) p = p
 
 system_above : (pid : ℕ) (e : Event) → SecondsAboveZero e → AboveZeroIn (system_violation pid e)
-unfolding system_violation fields_of
-system_above pid (overflow b) p = tt
-system_above pid (underflow t b) p = tt
-system_above pid (delay t d) p = tt
-system_above pid (tb_overflow b) p = tt
-system_above pid (tb_busy d) p = p
-system_above pid (mb_busy d) p = tt
+unfolding chain_violation fields_of
+system_above pid (Overflow b) p = tt
+system_above pid (Underflow t b) p = tt
+system_above pid (Delay t d) p = tt
+system_above pid (TbOverflowEvent b) p = tt
+system_above pid (TbBusy d) p = p
+system_above pid (MbBusy d) p = tt
 
 module _ (c : TStdConfig) where
   pub above_merged : (k : ℕ) (x t y u : Float) → AboveZeroIn (slot_violation c k x t) → AboveZeroIn (slot_violation c k y u) → AboveZeroIn (slot_violation c k (max_num x y) t)

@@ -12,29 +12,29 @@ use Rattle.std.proofs.lemmas.Bool.{and_parts, and_from, true≢false}
 use Rattle.summary.specs.Next.{NextSlot}
 
 -- slot j may come next
-pub record Candidate (firsts : List ℕ) (after j : ℕ) : Type 0 where
+pub record Candidate (firsts : List ℕ) (events after j : ℕ) : Type 0 where
   pub low : 0 < j
   pub behind : after < get_or firsts j 0
-  pub counted : get_or firsts j 0 ≤ get_or firsts 0 0
+  pub counted : get_or firsts j 0 ≤ events
 
 -- of the candidates below k, b is the lowest with the least number
-pub record Best (firsts : List ℕ) (after k b : ℕ) : Type 0 where
+pub record Best (firsts : List ℕ) (events after k b : ℕ) : Type 0 where
   pub passed : b < k
-  pub candidate : Candidate firsts after b
+  pub candidate : Candidate firsts events after b
   pub lowest : (j : ℕ) → 0 < j → j < b → get_or firsts j 0 ≡ get_or firsts b 0 → ⊥
-  pub least : (j : ℕ) → j < k → Candidate firsts after j → get_or firsts b 0 ≤ get_or firsts j 0
+  pub least : (j : ℕ) → j < k → Candidate firsts events after j → get_or firsts b 0 ≤ get_or firsts j 0
 
-abbrev pub Scanned : List ℕ → ℕ → ℕ → Option ℕ → Type 0
-Scanned firsts after k None = (j : ℕ) → j < k → Candidate firsts after j → ⊥
-Scanned firsts after k (Some b) = Best firsts after k b
+abbrev pub Scanned : List ℕ → ℕ → ℕ → ℕ → Option ℕ → Type 0
+Scanned firsts events after k None = (j : ℕ) → j < k → Candidate firsts events after j → ⊥
+Scanned firsts events after k (Some b) = Best firsts events after k b
 
 -- the number of slot k is before that of the best so far, or counted where there is none
-abbrev pub sooner : List ℕ → Option ℕ → ℕ → Bool
-sooner firsts None first = leb first (get_or firsts 0 0)
-sooner firsts (Some b) first = ltb first (get_or firsts b 0)
+abbrev pub sooner : List ℕ → ℕ → Option ℕ → ℕ → Bool
+sooner firsts events None first = leb first (events)
+sooner firsts events (Some b) first = ltb first (get_or firsts b 0)
 
-module _ (firsts : List ℕ) (after : ℕ) where
-  pub scan_starts : Scanned firsts after 1 None
+module _ (firsts : List ℕ) (events after : ℕ) where
+  pub scan_starts : Scanned firsts events after 1 None
   scan_starts j h c = omega (arith, c.low)
 
   module _ (k : ℕ) (low : 0 < k) where
@@ -52,10 +52,10 @@ module _ (firsts : List ℕ) (after : ℕ) where
     at_k : (j : ℕ) → j ≡ k → get_or firsts j 0 ≡ f
     at_k j e = ap (λ (i : ℕ). get_or firsts i 0) e
 
-    pub scan_better : (best : Option ℕ) → Scanned firsts after k best → (ltb after f && sooner firsts best f) ≡ true → Scanned firsts after (k + 1) (Some k)
+    pub scan_better : (best : Option ℕ) → Scanned firsts events after k best → (ltb after f && sooner firsts events best f) ≡ true → Scanned firsts events after (k + 1) (Some k)
     scan_better None s t =
         let p = ltb-true after f (and_parts (ltb after f) _ t).0 in
-        let q = leb-true f (get_or firsts 0 0) (and_parts (ltb after f) _ t).1 in
+        let q = leb-true f (events) (and_parts (ltb after f) _ t).1 in
         record {
           passed = omega arith;
           candidate = record { low = low; behind = p; counted = q };
@@ -74,17 +74,17 @@ module _ (firsts : List ℕ) (after : ℕ) where
         }
 
     -- the test fails
-    fails : (best : Option ℕ) → (ltb after f && sooner firsts best f) ≡ false → after < f → sooner firsts best f ≡ false
-    fails best t p = go (sooner firsts best f) refl
+    fails : (best : Option ℕ) → (ltb after f && sooner firsts events best f) ≡ false → after < f → sooner firsts events best f ≡ false
+    fails best t p = go (sooner firsts events best f) refl
       where
-        go : (b : Bool) → sooner firsts best f ≡ b → sooner firsts best f ≡ false
+        go : (b : Bool) → sooner firsts events best f ≡ b → sooner firsts events best f ≡ false
         go true e = absurd (true≢false (sym (and_from (ltb after f) _ (lt-ltb after f p) e) ∙ t))
         go false e = e
 
-    pub scan_other : (best : Option ℕ) → Scanned firsts after k best → (ltb after f && sooner firsts best f) ≡ false → Scanned firsts after (k + 1) best
+    pub scan_other : (best : Option ℕ) → Scanned firsts events after k best → (ltb after f && sooner firsts events best f) ≡ false → Scanned firsts events after (k + 1) best
     scan_other None s t = λ j h c.
         at_or_below j h
-        (λ e. let g = at_k j e in let b = c.behind in let d = c.counted in let w = leb-false f (get_or firsts 0 0) (fails None t (omega arith)) in omega arith)
+        (λ e. let g = at_k j e in let b = c.behind in let d = c.counted in let w = leb-false f (events) (fails None t (omega arith)) in omega arith)
         (λ g. s j g c)
     scan_other (Some b) s t =
         let passed = s.passed in
@@ -98,7 +98,7 @@ module _ (firsts : List ℕ) (after : ℕ) where
               (λ g. s.least j g c);
         }
 
-  pub scan_ends : (k : ℕ) (best : Option ℕ) → length firsts ≡ k → Scanned firsts after k best → NextSlot firsts after best
+  pub scan_ends : (k : ℕ) (best : Option ℕ) → length firsts ≡ k → Scanned firsts events after k best → NextSlot firsts events after best
   scan_ends k None n s = λ j l h i a w e. s i (omega arith) (record { low = a; behind = omega arith; counted = omega arith })
   scan_ends k (Some b) n s =
       let passed = s.passed in

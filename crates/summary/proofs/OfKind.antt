@@ -8,9 +8,8 @@ use lib.Ieee.{Float}
 use borrow.Author.Tests.{lt-ltb, le-ltb}
 use Rattle.profile.specs.declared.config.TStdConfig.{TStdConfig}
 use Rattle.profile.specs.Config.{unused_stream}
-use Rattle.events.specs.Event.{kind_at}
-use Rattle.summary.specs.Kinds.{event_in}
-use Rattle.summary.specs.Violation.{stream_violation, system_violation, system_pid, violation_of, event_of, slot_violation}
+use Rattle.events.specs.Event.{event_of}
+use Rattle.summary.specs.Violation.{stream_violation, system_violation, system_pid, violation_of, slot_violation}
 
 module _ (c : TStdConfig) where
   pub no_system_pid : c.system_count ≡ 0 → system_pid c ≡ 0
@@ -20,10 +19,10 @@ module _ (c : TStdConfig) where
   first_system_pid h = get_or-take c.system_count c.system_pids 0 0 (omega arith)
 
   module _ (k : ℕ) (x t : Float) where
-    pub of_stream : (k - 1) / 6 < 8 → slot_violation c k x t ≡ stream_violation (get_or c.streams ((k - 1) / 6) unused_stream) (event_in (kind_at ((k - 1) % 6)) x t)
-    unfolding slot_violation violation_of event_of
+    pub of_stream : (k - 1) / 6 < 8 → slot_violation c k x t ≡ stream_violation (get_or c.streams ((k - 1) / 6) unused_stream) (event_of ((k - 1) % 6) x t)
+    unfolding slot_violation violation_of
     of_stream h = rw (lt-ltb ((k - 1) / 6) 8 h)
 
-    pub of_system : 8 ≤ (k - 1) / 6 → slot_violation c k x t ≡ system_violation (system_pid c) (event_in (kind_at ((k - 1) % 6)) x t)
-    unfolding slot_violation violation_of event_of
+    pub of_system : 8 ≤ (k - 1) / 6 → slot_violation c k x t ≡ system_violation (system_pid c) (event_of ((k - 1) % 6) x t)
+    unfolding slot_violation violation_of
     of_system h = rw (le-ltb ((k - 1) / 6) 8 h)

@@ -13,8 +13,10 @@ use Rattle.report.proofs.Commute.{kind_eq}
 use Rattle.profile.specs.declared.model.TStdBranch.{TStdBranch}
 use Rattle.profile.specs.declared.model.TStdBranch.TheVariants.{Main, Video}
 use Rattle.profile.specs.declared.config.TStdStream.{TStdStream}
-use Rattle.events.specs.Event.{Event, overflow, underflow, delay, tb_overflow, tb_busy, mb_busy, kind_of}
-use Rattle.summary.specs.Violation.{overflow_in, underflow_in, stream_violation, system_violation}
+use Rattle.events.specs.declared.Event.{Event}
+use Rattle.events.specs.declared.Event.TheVariants.{Overflow, Underflow, Delay, TbOverflow, TbBusy, MbBusy}
+use Rattle.events.specs.Event.{kind_of}
+use Rattle.summary.specs.Violation.{overflow_in, underflow_in, chain_violation, stream_violation, system_violation}
 use Rattle.summary.proofs.Merge.{kind_few}
 
 -- the kind of event that a stream's violation of a kind comes from, and 6 for BsysOverflow, which no stream has
@@ -39,13 +41,13 @@ underflow_tells (Main size) p t n = record { kind = refl; pid = refl }
 underflow_tells (Video rbx mb eb) p t n = record { kind = refl; pid = refl }
 
 stream_tells : (s : TStdStream) (e : Event) → Tells (stream_violation s e) (kind_of e) s.pid
-unfolding stream_violation fields_of kind_back kind_of
-stream_tells s (overflow b) = overflow_tells s.model.branch s.pid _
-stream_tells s (underflow t b) = underflow_tells s.model.branch s.pid t _
-stream_tells s (delay t d) = record { kind = refl; pid = refl }
-stream_tells s (tb_overflow b) = record { kind = refl; pid = refl }
-stream_tells s (tb_busy d) = record { kind = refl; pid = refl }
-stream_tells s (mb_busy d) = record { kind = refl; pid = refl }
+unfolding chain_violation fields_of kind_back kind_of
+stream_tells s (Overflow b) = overflow_tells s.model.branch s.pid _
+stream_tells s (Underflow t b) = underflow_tells s.model.branch s.pid t _
+stream_tells s (Delay t d) = record { kind = refl; pid = refl }
+stream_tells s (TbOverflow b) = record { kind = refl; pid = refl }
+stream_tells s (TbBusy d) = record { kind = refl; pid = refl }
+stream_tells s (MbBusy d) = record { kind = refl; pid = refl }
 
 same_pid : (v w : TStdViolation) → key_of v ≡ key_of w → (fields_of v).pid ≡ (fields_of w).pid
 unfolding key_of
@@ -63,10 +65,10 @@ not_bsys : (s : TStdStream) (e : Event) {w : TStdViolation} → Tells w 6 0 → 
 not_bsys s e b h = absurd (let k : kind_of e ≡ 6 = (told_alike (stream_tells s e) b h).0 in omega (arith, kind_few e))
 
 pub system_shares : (s : TStdStream) (pid : ℕ) (e f : Event) → key_of (stream_violation s e) ≡ key_of (system_violation pid f) → (kind_of e ≡ kind_of f) × (s.pid ≡ pid)
-unfolding system_violation fields_of kind_back kind_of
-system_shares s pid e (overflow b) h = not_bsys s e (record { kind = refl; pid = refl }) h
-system_shares s pid e (underflow t b) h = not_bsys s e (record { kind = refl; pid = refl }) h
-system_shares s pid e (delay t d) h = not_bsys s e (record { kind = refl; pid = refl }) h
-system_shares s pid e (tb_overflow b) h = told_alike (stream_tells s e) (record { kind = refl; pid = refl }) h
-system_shares s pid e (tb_busy d) h = told_alike (stream_tells s e) (record { kind = refl; pid = refl }) h
-system_shares s pid e (mb_busy d) h = not_bsys s e (record { kind = refl; pid = refl }) h
+unfolding chain_violation fields_of kind_back kind_of
+system_shares s pid e (Overflow b) h = not_bsys s e (record { kind = refl; pid = refl }) h
+system_shares s pid e (Underflow t b) h = not_bsys s e (record { kind = refl; pid = refl }) h
+system_shares s pid e (Delay t d) h = not_bsys s e (record { kind = refl; pid = refl }) h
+system_shares s pid e (TbOverflow b) h = told_alike (stream_tells s e) (record { kind = refl; pid = refl }) h
+system_shares s pid e (TbBusy d) h = told_alike (stream_tells s e) (record { kind = refl; pid = refl }) h
+system_shares s pid e (MbBusy d) h = not_bsys s e (record { kind = refl; pid = refl }) h

@@ -1,5 +1,4 @@
--- The definitions of the summary: the event of a kind, the violation of an event, the report made from the slots, and the keys that can occur.
-pub mod Kinds
+-- The definitions of the summary: the violation of an event, the report made from the slots, and the keys that can occur.
 pub mod Violation
 pub mod Summary
 pub mod Keys

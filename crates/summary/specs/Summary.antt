@@ -1,5 +1,5 @@
 -- The report made from the slots: the violation of each slot that has events, in the order of their first events, and the count.
-use Rattle.std.specs.Prelude.{ℕ, zero, suc, ◌+◌, ◌<◌, cond, List, [], ◌∷◌, ◌++◌, map, get_or, drop, Float}
+use Rattle.std.specs.Prelude.{ℕ, zero, suc, ◌<◌, cond, List, [], ◌∷◌, ◌++◌, map, get_or, drop}
 use Rattle.std.specs.Float.{nan}
 use Rattle.report.specs.declared.violation.TStdViolation.{TStdViolation}
 use Rattle.report.specs.declared.TStdReport.{TStdReport}
@@ -7,7 +7,8 @@ use Rattle.report.specs.Report.{empty_report}
 use Rattle.report.specs.Record.{record_all}
 use Rattle.profile.specs.declared.config.TStdConfig.{TStdConfig}
 use Rattle.profile.specs.Owner.{contains, first_index}
-use Rattle.events.specs.Event.{Event, figure_of, decode_of}
+use Rattle.events.specs.declared.Event.{Event}
+use Rattle.events.specs.Event.{figure_of, decode_of}
 use Rattle.events.specs.declared.Slots.{Slots}
 use Rattle.events.specs.Slots.{no_events, noted}
 use Rattle.summary.specs.Violation.{violation_of, slot_of, slot_violation, SecondsAboveZero}
@@ -50,14 +51,14 @@ first_slots firsts zero = []
 first_slots firsts (suc n) = first_slots firsts n ++ slot_first firsts (suc n)
 
 -- the largest figure of slot k with the decode time of its first event
-abbrev pub violation_in : TStdConfig → List Float → ℕ → TStdViolation
-violation_in c figures k = slot_violation c k (get_or figures k nan) (get_or figures (64 + k) nan)
+abbrev pub violation_in : TStdConfig → Slots → ℕ → TStdViolation
+violation_in c s k = slot_violation c k (get_or s.figures k nan) (get_or s.decode_times k nan)
 
 unfoldable pub slot_violations : TStdConfig → Slots → List TStdViolation
-slot_violations c s = map (violation_in c s.figures) (first_slots s.firsts (get_or s.firsts 0 0))
+slot_violations c s = map (violation_in c s) (first_slots s.firsts s.events)
 
 abbrev pub with_events : TStdReport → ℕ → TStdReport
 with_events r n = record { violations = r.violations; violation_count = r.violation_count; violation_events = n; pcr_samples = r.pcr_samples; modelled_seconds = r.modelled_seconds }
 
 unfoldable pub summary : TStdConfig → Slots → TStdReport
-summary c s = with_events (record_all empty_report (slot_violations c s)) (get_or s.firsts 0 0)
+summary c s = with_events (record_all empty_report (slot_violations c s)) s.events

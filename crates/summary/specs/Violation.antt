@@ -1,6 +1,6 @@
 -- The violation that an event of a chain is: where and with which fields the Rust's branches and `analyze_tstd` call `record`.
 -- Chains 0 to 7 are those of the streams, chain 8 is the system's (and so would be any past it).
-use Rattle.std.specs.Prelude.{ℕ, ◌+◌, ◌-◌, ◌*◌, ◌/◌, ◌%◌, cond, get_or, T, ltb, Float}
+use Rattle.std.specs.Prelude.{ℕ, ◌+◌, ◌-◌, ◌*◌, ◌/◌, ◌%◌, cond, get_or, T, ltb, Float, Option, Some, None}
 use Rattle.std.specs.Float.{binary64}
 use Rattle.std.specs.Float.Ieee.{fits, to_unsigned}
 use Rattle.std.specs.Float.Ieee.Positive.{above}
@@ -11,8 +11,9 @@ use Rattle.profile.specs.declared.model.TStdBranch.TheVariants.{Main, Video}
 use Rattle.profile.specs.declared.config.TStdStream.{TStdStream}
 use Rattle.profile.specs.declared.config.TStdConfig.{TStdConfig}
 use Rattle.profile.specs.Config.{unused_stream, system_pids}
-use Rattle.events.specs.Event.{Event, overflow, underflow, delay, tb_overflow, tb_busy, mb_busy, kind_of, kind_at}
-use Rattle.summary.specs.Kinds.{event_in}
+use Rattle.events.specs.declared.Event.{Event}
+use Rattle.events.specs.declared.Event.TheVariants.{Overflow, Underflow, Delay, TbOverflow as TbOverflowEvent, TbBusy, MbBusy}
+use Rattle.events.specs.Event.{kind_of, event_of}
 
 -- a figure in bytes, `as u64`
 abbrev pub whole_bytes : Float → ℕ
@@ -28,22 +29,25 @@ unfoldable pub underflow_in : TStdBranch → ℕ → Float → ℕ → TStdViola
 underflow_in (Main size) pid t n = MainUnderflow pid t n
 underflow_in (Video rbx mb eb) pid t n = EbUnderflow pid t n
 
-unfoldable pub stream_violation : TStdStream → Event → TStdViolation
-stream_violation s (overflow b) = overflow_in s.model.branch s.pid (whole_bytes b)
-stream_violation s (underflow t b) = underflow_in s.model.branch s.pid t (whole_bytes b)
-stream_violation s (delay t d) = DelayOverOneSecond s.pid t d
-stream_violation s (tb_overflow b) = TbOverflow s.pid (whole_bytes b)
-stream_violation s (tb_busy d) = TbBusyOverOneSecond s.pid d
-stream_violation s (mb_busy d) = MbBusyOverOneSecond s.pid d
+-- An event of the chain with the PID, by the branch of its stream. The system chain has none: TBsys's events have the first system PID, Bsys's
+-- none, and it finds no other kind: these count as Bsys's.
+unfoldable pub chain_violation : ℕ → Option TStdBranch → Event → TStdViolation
+chain_violation pid b (TbOverflowEvent x) = TbOverflow pid (whole_bytes x)
+chain_violation pid b (TbBusy d) = TbBusyOverOneSecond pid d
+chain_violation pid (Some b) (Overflow x) = overflow_in b pid (whole_bytes x)
+chain_violation pid (Some b) (Underflow t x) = underflow_in b pid t (whole_bytes x)
+chain_violation pid (Some b) (Delay t d) = DelayOverOneSecond pid t d
+chain_violation pid (Some b) (MbBusy d) = MbBusyOverOneSecond pid d
+chain_violation pid None (Overflow x) = BsysOverflow (whole_bytes x)
+chain_violation pid None (Underflow t x) = BsysOverflow (whole_bytes x)
+chain_violation pid None (Delay t d) = BsysOverflow (whole_bytes d)
+chain_violation pid None (MbBusy d) = BsysOverflow (whole_bytes d)
 
--- TBsys's events have the first system PID, Bsys's none. The system chain finds no other kind: these count as Bsys's.
-unfoldable pub system_violation : ℕ → Event → TStdViolation
-system_violation pid (overflow b) = BsysOverflow (whole_bytes b)
-system_violation pid (tb_overflow b) = TbOverflow pid (whole_bytes b)
-system_violation pid (tb_busy d) = TbBusyOverOneSecond pid d
-system_violation pid (underflow t b) = BsysOverflow (whole_bytes b)
-system_violation pid (delay t d) = BsysOverflow (whole_bytes d)
-system_violation pid (mb_busy d) = BsysOverflow (whole_bytes d)
+abbrev pub stream_violation : TStdStream → Event → TStdViolation
+stream_violation s e = chain_violation s.pid (Some s.model.branch) e
+
+abbrev pub system_violation : ℕ → Event → TStdViolation
+system_violation pid e = chain_violation pid None e
 
 -- the first system PID, or 0 where there is none
 abbrev pub system_pid : TStdConfig → ℕ
@@ -53,10 +57,6 @@ unfoldable pub violation_of : TStdConfig → ℕ → Event → TStdViolation
 violation_of c chain e = cond (ltb chain 8) (stream_violation (get_or c.streams chain unused_stream) e) (system_violation (system_pid c) e)
 
 -- ---- by slot
-
--- the event of a kind
-unfoldable pub event_of : ℕ → Float → Float → Event
-event_of kind figure decode = event_in (kind_at kind) figure decode
 
 -- each chain has six slots, from slot 1 on
 abbrev pub slot_of : ℕ → Event → ℕ
@@ -71,9 +71,9 @@ abbrev pub AboveZero : Float → Type 0
 AboveZero s = T (fits binary64 s) × T (above s)
 
 abbrev pub SecondsAboveZero : Event → Type 0
-SecondsAboveZero (overflow b) = Unit
-SecondsAboveZero (underflow t b) = Unit
-SecondsAboveZero (delay t d) = AboveZero d
-SecondsAboveZero (tb_overflow b) = Unit
-SecondsAboveZero (tb_busy d) = AboveZero d
-SecondsAboveZero (mb_busy d) = AboveZero d
+SecondsAboveZero (Overflow b) = Unit
+SecondsAboveZero (Underflow t b) = Unit
+SecondsAboveZero (Delay t d) = AboveZero d
+SecondsAboveZero (TbOverflowEvent b) = Unit
+SecondsAboveZero (TbBusy d) = AboveZero d
+SecondsAboveZero (MbBusy d) = AboveZero d

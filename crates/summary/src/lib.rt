@@ -2,15 +2,14 @@
 // their first events. Stream i has the six slots from 1 + 6 * i on, the system chain those from 49 on.
 #![tactic(auto)]
 
-ghost use Rattle.std.specs.Prelude.{◌≡◌, Float};
-ghost use Rattle.summary.specs.Violation.{overflow_in, underflow_in, stream_violation, system_violation, system_pid, slot_violation};
-ghost use Rattle.summary.specs.Kinds.{event_in};
+ghost use Rattle.std.specs.Prelude.{◌≡◌};
+ghost use Rattle.summary.specs.Violation.{overflow_in, underflow_in, chain_violation, system_pid, slot_violation};
 ghost use Rattle.summary.specs.Next.{NextSlot};
 ghost use Rattle.summary.specs.Summary.{summary};
 
-use events::{EventKind, Slots};
-use profile::{TStdBranch, TStdConfig, TStdStream};
-use report::{TStdReport, TStdViolation};
+use events::{Event, Slots};
+use profile::{TStdBranch, TStdConfig};
+use report::{TStdReport, TStdViolation, record_in};
 
 #[tactic(auto, unfolding(crate::specs::Violation::overflow_in))]
 fn overflow_in(branch: TStdBranch, pid: u16, peak_bytes: u64) -> TStdViolation
@@ -48,59 +47,40 @@ fn underflow_in(branch: TStdBranch, pid: u16, decode_time: f64, missing_bytes: u
     }
 }
 
-#[tactic(auto, unfolding(crate::specs::Violation::stream_violation))]
-fn stream_violation(
-    stream: TStdStream,
-    kind: EventKind,
-    figure: f64,
-    decode_time: f64,
-) -> TStdViolation
-    ensures { result ≡ stream_violation stream (event_in kind figure decode_time) }
+// The violation of an event of the chain with the PID; branch is that of its stream, and none for the system chain, whose events are those
+// of its transport buffer and of Bsys.
+#[tactic(auto, unfolding(crate::specs::Violation::chain_violation, events::specs::Event::figure_of))]
+fn chain_violation(pid: u16, branch: Option<TStdBranch>, event: Event) -> TStdViolation
+    ensures { result ≡ chain_violation pid branch event }
 {
-    let pid = stream.pid;
-    match kind {
-        EventKind::Overflow => overflow_in(stream.model.branch, pid, ieee::to_u64(figure)),
-        EventKind::Underflow => underflow_in(
-            stream.model.branch,
+    match (branch, event) {
+        (_, Event::TbOverflow(bytes)) => TStdViolation::TbOverflow {
+            pid,
+            peak_bytes: ieee::to_u64(bytes),
+        },
+        (_, Event::TbBusy(seconds)) => TStdViolation::TbBusyOverOneSecond { pid, seconds },
+        (Some(b), Event::Overflow(bytes)) => overflow_in(b, pid, ieee::to_u64(bytes)),
+        (
+            Some(b),
+            Event::Underflow {
+                decode_time,
+                missing,
+            },
+        ) => underflow_in(b, pid, decode_time, ieee::to_u64(missing)),
+        (
+            Some(_),
+            Event::Delay {
+                decode_time,
+                seconds,
+            },
+        ) => TStdViolation::DelayOverOneSecond {
             pid,
             decode_time,
-            ieee::to_u64(figure),
-        ),
-        EventKind::Delay => TStdViolation::DelayOverOneSecond {
-            pid,
-            decode_time,
-            delay_seconds: figure,
+            delay_seconds: seconds,
         },
-        EventKind::TbOverflow => TStdViolation::TbOverflow {
-            pid,
-            peak_bytes: ieee::to_u64(figure),
-        },
-        EventKind::TbBusy => TStdViolation::TbBusyOverOneSecond {
-            pid,
-            seconds: figure,
-        },
-        EventKind::MbBusy => TStdViolation::MbBusyOverOneSecond {
-            pid,
-            seconds: figure,
-        },
-    }
-}
-
-#[tactic(auto, unfolding(crate::specs::Violation::system_violation))]
-fn system_violation(pid: u16, kind: EventKind, figure: f64) -> TStdViolation
-    ensures { (decode : Float) → result ≡ system_violation pid (event_in kind figure decode) }
-{
-    match kind {
-        EventKind::TbOverflow => TStdViolation::TbOverflow {
-            pid,
-            peak_bytes: ieee::to_u64(figure),
-        },
-        EventKind::TbBusy => TStdViolation::TbBusyOverOneSecond {
-            pid,
-            seconds: figure,
-        },
-        _ => TStdViolation::BsysOverflow {
-            peak_bytes: ieee::to_u64(figure),
+        (Some(_), Event::MbBusy(seconds)) => TStdViolation::MbBusyOverOneSecond { pid, seconds },
+        (None, _) => TStdViolation::BsysOverflow {
+            peak_bytes: ieee::to_u64(event.figure()),
         },
     }
 }
@@ -123,25 +103,26 @@ pub fn violation(config: TStdConfig, k: usize, figure: f64, decode_time: f64) ->
 {
     let before = k.saturating_sub(1);
     let chain = before / 6;
-    let kind = EventKind::at(before % 6);
+    let event = Event::at(before % 6, figure, decode_time);
     if chain < 8 {
-        stream_violation(config.streams[chain], kind, figure, decode_time)
+        let stream = config.streams[chain];
+        chain_violation(stream.pid, Some(stream.model.branch), event)
     } else {
-        system_violation(system_pid(config), kind, figure)
+        chain_violation(system_pid(config), None, event)
     }
 }
 
 // The slot whose first event comes next behind event `after`. Of slots with one number, which no events leave, the lowest.
 #[tactic(auto, using(crate::proofs::Next::scan_starts, crate::proofs::Next::scan_better, crate::proofs::Next::scan_other, crate::proofs::Next::scan_ends))]
-fn next_slot(firsts: &[u64; 64], after: u64) -> Option<usize>
-    ensures { NextSlot firsts.now after result }
+fn next_slot(slots: &Slots, after: u64) -> Option<usize>
+    ensures { NextSlot slots.now.firsts slots.now.events after result }
 {
     let mut best = None;
     for k in 1..64 {
-        let first = firsts[k];
+        let first = slots.firsts[k];
         let sooner = match best {
-            Some(b) => first < firsts[b],
-            None => first <= firsts[0],
+            Some(b) => first < slots.firsts[b],
+            None => first <= slots.events,
         };
         if (after < first) & sooner {
             best = Some(k);
@@ -157,11 +138,13 @@ pub fn report_of(config: TStdConfig, slots: Slots) -> TStdReport
 {
     let mut report = TStdReport::new();
     let mut after = 0;
-    while let Some(k) = next_slot(&slots.firsts, after) {
-        let recorded = report.record(violation(config, k, slots.figures[k], slots.figures[64 + k]));
-        report = recorded.report;
+    while let Some(k) = next_slot(&slots, after) {
+        let _ = record_in(
+            &mut report,
+            violation(config, k, slots.figures[k], slots.decode_times[k]),
+        );
         after = slots.firsts[k];
     }
-    report.violation_events = slots.firsts[0];
+    report.violation_events = slots.events;
     report
 }

@@ -5,7 +5,7 @@ use borrow.Author.Tests.{eqb-false}
 use Rattle.scanner.specs.State.{scanner_of}
 use Rattle.recording.specs.Read.{opens_at}
 use Rattle.arrival.proofs.Covering.{AtEnd}
-use Rattle.events.specs.Event.{Event}
+use Rattle.events.specs.declared.Event.{Event}
 use Rattle.events.specs.declared.Slots.{Slots}
 use Rattle.events.specs.Slots.{noted_all}
 use Rattle.events.proofs.Noted.{noted_all_append_lem}

@@ -5,7 +5,7 @@ use Rattle.summary.proofs.report_of.Goals as goal
 
 pub loop-k-preserved : goal.loop-k-preserved
 loop-k-preserved c =
-    rw (c.record-recorded.ensures.0, c.violation.ensures)
+    rw (c.record_in.ensures.0, c.violation.ensures)
     (sum_next _ _ _ _ c.loop-k.invariant _ (rw c.in-Some.is at c.next_slot.ensures))
 
 pub returns : goal.returns

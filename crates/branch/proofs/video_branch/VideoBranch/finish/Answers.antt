@@ -2,8 +2,6 @@
 use mathlib.Core.Path.{sym, ap, ◌∙◌}
 use mathlib.Core.Bool.{true≢false}
 use Rattle.std.specs.Prelude.{is_err}
-use Rattle.events.specs.Event.{mb_busy, kind_of, figure_of, decode_of}
-use Rattle.events.proofs.Noted.{noted_all_when_lem}
 use Rattle.branch.proofs.VideoFeeding.{units_closed}
 use Rattle.branch.proofs.VideoSteps.{ready_is, layout_apart, end_refused, end_reached}
 use Rattle.branch.proofs.video_branch.VideoBranch.finish.Goals as goal
@@ -19,13 +17,11 @@ returns-in_err-close c =
     }
 
 pub returns : goal.returns
-unfolding kind_of figure_of decode_of
 returns c =
     let q = sym c.ready.ensures ∙ c.if-not-ready.false in
     let r = ready_is c.args.work.now _ _ _ q in
     let closed = units_closed _ _ _ _ r.lies (layout_apart _) _ _ (rw c.layout-m.ensures at c.close.ensures) in
-    let busy = c.note_kind_if.ensures ∙ sym (noted_all_when_lem _ _ (mb_busy _) _) in
     record {
-      ends = λ h. end_reached _ _ _ _ _ _ _ _ closed (ap is_err c.in_ok-close.was) _ _ _ _ (rw c.max.ensures) (rw c.layout-m.ensures at c.advance.ensures) busy;
+      ends = λ h. end_reached _ _ _ _ _ _ _ _ closed (ap is_err c.in_ok-close.was) _ _ _ _ (rw c.max.ensures) (rw c.layout-m.ensures at c.advance.ensures) c.note_when.ensures;
       otherwise = λ h. absurd (true≢false (sym q ∙ h));
     }
