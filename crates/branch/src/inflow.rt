@@ -34,13 +34,15 @@ impl Run {
     }
 }
 
-// The run i from the front.
-fn run_at(q: Ring, w: Place, work: &[f64], i: usize) -> Run
-    requires lies { Lies 3 work.now w q }
-    requires i_lt_count { i < q.count }
-    ensures { result ≡ run_of (floats_at 3 work.now (place_of 3 w q i)) }
-{
-    Run::from(q.entry(w, work, i))
+impl Ring {
+    // The run i from the front.
+    fn run_at(self, w: Place, work: &[f64], i: usize) -> Run
+        requires lies { Lies 3 work.now w self }
+        requires i_lt_count { i < self.count }
+        ensures { result ≡ run_of (floats_at 3 work.now (place_of 3 w self i)) }
+    {
+        Run::from(self.entry(w, work, i))
+    }
 }
 
 impl CumulativeIn {
@@ -64,7 +66,7 @@ impl CumulativeIn {
         let mut q = self.runs;
         let mut sum = self.settled;
         while 0 < q.count {
-            let run = run_at(q, w, work, 0);
+            let run = q.run_at(w, work, 0);
             if run.t1 <= t {
                 sum = sum + run.bytes;
                 q.pop(w);
@@ -85,7 +87,7 @@ impl CumulativeIn {
     {
         let mut sum = self.settled;
         for i in 0..self.runs.count {
-            let run = run_at(self.runs, w, work, i);
+            let run = self.runs.run_at(w, work, i);
             if run.t0 >= t {
                 return sum;
             }
@@ -111,7 +113,7 @@ impl CumulativeIn {
     {
         let mut sum = 0.0;
         for i in 0..self.runs.count {
-            sum = sum + run_at(self.runs, w, work, i).bytes;
+            sum = sum + self.runs.run_at(w, work, i).bytes;
         }
         self.settled + sum
     }
@@ -126,11 +128,11 @@ impl CumulativeIn {
             if self.runs.count == 0 {
                 return Some(f64::NEG_INFINITY);
             }
-            return Some(run_at(self.runs, w, work, 0).t0);
+            return Some(self.runs.run_at(w, work, 0).t0);
         }
         let mut sum = self.settled;
         for i in 0..self.runs.count {
-            let run = run_at(self.runs, w, work, i);
+            let run = self.runs.run_at(w, work, i);
             if target <= sum + run.bytes {
                 return Some(run.t0 + (run.t1 - run.t0) * ((target - sum) / run.bytes));
             }

@@ -81,32 +81,32 @@ impl HeaderMark {
     }
 }
 
-// The marked bytes between start and end; the marks that end there go.
-fn header_bytes(first: Ring, w: Place, work: &[f64], start: f64, end: f64) -> Headers
-    requires { Lies 2 work.now w first }
-    ensures { HeadersBy work.now w first start end result }
-{
-    let mut q = first;
-    let mut sum = 0.0;
-    while 0 < q.count {
-        let m = HeaderMark::from(q.entry(w, work, 0));
-        if m.threshold - m.bytes >= end {
-            break;
-        }
-        sum = sum + m.overlap(start, end);
-        if m.threshold <= end {
-            q.pop(w);
-        } else {
-            break;
-        }
-    }
-    Headers {
-        marks: q,
-        bytes: sum,
-    }
-}
-
 impl Flow {
+    // The marked bytes of those that leave up to the byte `end`; the marks that end there go.
+    fn header_bytes(self, w: Place, work: &[f64], end: f64) -> Headers
+        requires { Lies 2 work.now w self.marks }
+        ensures { HeadersBy work.now w self.marks self.transferred end result }
+    {
+        let mut q = self.marks;
+        let mut sum = 0.0;
+        while 0 < q.count {
+            let m = HeaderMark::from(q.entry(w, work, 0));
+            if m.threshold - m.bytes >= end {
+                break;
+            }
+            sum = sum + m.overlap(self.transferred, end);
+            if m.threshold <= end {
+                q.pop(w);
+            } else {
+                break;
+            }
+        }
+        Headers {
+            marks: q,
+            bytes: sum,
+        }
+    }
+
     // Bytes leave MBn: those that are marked are dropped, the others enter EBn.
     #[tactic(auto, unfolding(crate::specs::VideoBranch::transfer, crate::specs::VideoBranch::moved, crate::specs::VideoBranch::eb_in_after, crate::specs::VideoInWork::flow_of))]
     fn transfer(self, w: Place, work: &[f64], bytes: f64) -> Flow
@@ -117,7 +117,7 @@ impl Flow {
             return self;
         }
         let end = self.transferred + bytes;
-        let h = header_bytes(self.marks, w, work, self.transferred, end);
+        let h = self.header_bytes(w, work, end);
         let eb_in = self.eb_in + (bytes - h.bytes);
         Flow {
             marks: h.marks,

@@ -1,10 +1,10 @@
--- `branch::leak::header_bytes` meets its contract. Assumes nothing.
+-- `branch::leak::Flow::header_bytes` meets its contract. Assumes nothing.
 use Rattle.branch.proofs.HeaderMarks.{pass_more, pass_before, pass_within, pass_ends}
 use Rattle.branch.proofs.Rings.{count_popped}
 use native.Mathlib.Omega.{arith}
 use mathlib.Core.Path.{ap, ◌∙◌}
 use Rattle.branch.specs.VideoInWork.{mark_of, mark_at}
-use Rattle.branch.proofs.leak.header_bytes.Goals as goal
+use Rattle.branch.proofs.leak.Flow.header_bytes.Goals as goal
 
 pub loop-q-smaller : goal.loop-q-smaller
 loop-q-smaller c = rw (c.pop.ensures, count_popped) (omega arith)
