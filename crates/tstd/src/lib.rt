@@ -32,7 +32,8 @@ fn modelled_seconds(first_time: f64, last_time: f64) -> f64
     }
 }
 
-// The answer when no queue was full. The system chain's transport buffer is looked at last, where there are system PIDs.
+// The answer when no queue was full. The system chain's transport buffer is looked at last, where there are system PIDs. That there are at most
+// eight streams is asked here, by the figures and by the ends of the streams, and no part of a configuration: its builders refuse nothing.
 fn accepted(config: TStdConfig, ran: Ran, samples: usize) -> Answer
     requires { config.stream_count ≤ 8 }
     ensures { result ≡ accepted_of config ran samples }
@@ -51,7 +52,8 @@ fn accepted(config: TStdConfig, ran: Ran, samples: usize) -> Answer
     }
 }
 
-// Both passes at the layout that is found. The chains have the first part of the floats, and the clock what is behind it.
+// Both passes at the layout that is found. The chains have the first part of the floats, and the clock what is behind it. Configuration, floats
+// and numbers are parameters of their own, as C lends them.
 #[tactic(auto, using(crate::proofs::Core::size_some, crate::proofs::Core::parts))]
 fn replay_at(
     bytes: &[u8],

@@ -4,9 +4,9 @@ ghost use Rattle.tstd.specs.Run.{queue_full, Ready, pass_of, EndsTo, RanTo};
 
 use crate::chain::Chain;
 use crate::front::SystemChain;
-use crate::skip::Position;
+use crate::skip::{Packets, Position};
 use crate::times::Times;
-use crate::{chain, front, owners, skip};
+use crate::{chain, front, owners};
 use arrival::Intervals;
 use error::Refusal;
 use events::Slots;
@@ -71,6 +71,11 @@ pub(crate) fn run(
     let mut system = front::new_system();
     let mut slots = Slots::new();
     let mut times = Times::start(clock);
+    let packets = Packets {
+        bytes,
+        size: layout.packet_size,
+        count,
+    };
     let mut at = layout.sync_offset;
     let mut k = 0;
     while k < count {
@@ -89,7 +94,7 @@ pub(crate) fn run(
             (Owner::System, _) => system = front::push_system(system, times.arrival, &mut slots),
             _ => {
                 let here = Position { times, at, k };
-                let last = skip::skip(here, &owners, bytes, layout.packet_size, count);
+                let last = packets.skip(here, &owners);
                 times = last.times;
                 at = last.at;
                 k = last.k;

@@ -1,7 +1,7 @@
 -- `skip_unparsed` meets its contract: each of the packets that it passes does not parse and ends within the interval. Assumes nothing.
 use Rattle.std.proofs.Common.{arith}
 use Rattle.tstd.proofs.Skipping.{skips_many}
-use Rattle.tstd.proofs.skip.skip_unparsed.Goals as goal
+use Rattle.tstd.proofs.skip.Packets.skip_unparsed.Goals as goal
 
 pub returns : goal.returns
 returns c owners =

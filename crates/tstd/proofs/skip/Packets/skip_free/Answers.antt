@@ -1,7 +1,7 @@
 -- `skip_free` meets its contract. The invariant: the packets so far are nobody's, behind one another. The measure: the packets left.
 -- Assumes nothing.
 use Rattle.tstd.proofs.Skipping.{skips_free}
-use Rattle.tstd.proofs.skip.skip_free.Goals as goal
+use Rattle.tstd.proofs.skip.Packets.skip_free.Goals as goal
 
 pub loop-packet-preserved : goal.loop-packet-preserved
 loop-packet-preserved c =
