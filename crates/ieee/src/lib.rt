@@ -8,6 +8,7 @@ ghost use Rattle.ieee.specs.MaxMin.{max_of, min_of, max_num};
 
 // One comparison: Rust's `f64::max` where a is a number. Ruled out: the smaller one; the second of two that are equal.
 // Not std's `max`: it has two comparisons (measured), and leaves open which of two equal operands it gives.
+#[tactic(auto, unfolding(crate::specs::MaxMin::max_of))]
 pub fn max(a: f64, b: f64) -> f64
     ensures { result ≡ max_of a b }
 {
@@ -30,6 +31,7 @@ pub fn min(a: f64, b: f64) -> f64
 
 // Rust's `f64::max`. Ruled out: a not-a-number kept beside a number; the smaller one.
 // Not std's `max`: of two equal operands this promises the first, where std's leaves it open.
+#[tactic(auto, unfolding(crate::specs::MaxMin::max_num))]
 pub fn max_num(a: f64, b: f64) -> f64
     ensures { result ≡ max_num a b }
 {
