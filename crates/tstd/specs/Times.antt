@@ -9,7 +9,11 @@ use Rattle.tstd.specs.declared.times.Times.{Times}
 abbrev pub start_times : PacketArrival → Times
 start_times a = record { arrival = a; first_time = +∞; last_time = -∞ }
 
+-- behind a packet that parses; a is its arrival
+abbrev pub parsed_times : PacketArrival → Times → Times
+parsed_times a t = record { arrival = a; first_time = min_of t.first_time a.t0; last_time = max_of t.last_time a.t1 }
+
 -- behind a packet that does not parse, and one that does; a is its arrival
 unfoldable pub next_times : Option PacketHeader → PacketArrival → Times → Times
 next_times None a t = record { arrival = a; first_time = t.first_time; last_time = t.last_time }
-next_times (Some h) a t = record { arrival = a; first_time = min_of t.first_time a.t0; last_time = max_of t.last_time a.t1 }
+next_times (Some h) a t = parsed_times a t

@@ -1,4 +1,5 @@
-// A stream's chain: its transport buffer, its scanner and its branch.
+// A stream's chain: its transport buffer, its scanner and its branch. Work and slots are handed on beside it, the slots beside k, where those of the
+// chain begin, as `branch` says at MainModel.
 ghost use Rattle.std.specs.Prelude.{◌≡◌, ◌<◌, ◌≤◌};
 ghost use Rattle.tstd.specs.Chain.{new_branch, new_chain, ChainsOf, scanned, StepOf, FinishOf, PacketOf, EndOf};
 

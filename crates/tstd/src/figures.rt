@@ -50,6 +50,7 @@ fn system_row(config: TStdConfig, system: SystemChain) -> TStdChainStats
     }
 }
 
+// At most eight streams: see `accepted`.
 pub(crate) fn figures(config: TStdConfig, chains: [Chain; 8], system: SystemChain) -> Figures
     requires { config.stream_count ≤ 8 }
     ensures { result ≡ figures_of (rows_from 0 (streams_of config) chains ++ system_rows config system) }

@@ -33,7 +33,8 @@ fn modelled_seconds(first_time: f64, last_time: f64) -> f64
 }
 
 // The answer when no queue was full. The system chain's transport buffer is looked at last, where there are system PIDs. That there are at most
-// eight streams is asked here, by the figures and by the ends of the streams, and no part of a configuration: its builders refuse nothing.
+// eight streams is asked here, by the figures and by the ends of the streams, and no part of a configuration: its builders refuse nothing,
+// and a checked one would be a second type of the same fields.
 fn accepted(config: TStdConfig, ran: Ran, samples: usize) -> Answer
     requires { config.stream_count ≤ 8 }
     ensures { result ≡ accepted_of config ran samples }

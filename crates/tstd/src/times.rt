@@ -1,7 +1,7 @@
 // When the packets arrive: the arrival clock of pass 2 as it goes from packet to packet.
 ghost use Rattle.std.specs.Prelude.{◌≡◌};
 ghost use Rattle.arrival.specs.Work.{start_of_arrival, next_arrival};
-ghost use Rattle.tstd.specs.Times.{start_times, next_times};
+ghost use Rattle.tstd.specs.Times.{start_times, parsed_times, next_times};
 
 use arrival::{Intervals, PacketArrival};
 use header::PacketHeader;
@@ -35,6 +35,13 @@ impl Times {
         if header.is_none() {
             return Times { arrival, ..self };
         }
+        self.parsed(arrival)
+    }
+
+    // The times behind a packet that parses.
+    pub(crate) fn parsed(self, arrival: PacketArrival) -> Times
+        ensures { result ≡ parsed_times arrival self }
+    {
         Times {
             arrival,
             first_time: ieee::min(self.first_time, arrival.t0),
