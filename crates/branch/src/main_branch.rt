@@ -20,6 +20,7 @@ pub struct MainModel {
     pub depth: usize,
 }
 
+// Functions of these names stand in VideoBranch too, and no trait over both: what both do is in `Units`, and the rest differs (lib.rt).
 #[derive(Clone, Copy)]
 pub struct MainBranch {
     pub inflow: CumulativeIn,

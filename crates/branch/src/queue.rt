@@ -64,7 +64,7 @@ impl Ring {
         e
     }
 
-    // The entry goes behind the last. Nothing changes where no place is left.
+    // The entry goes behind the last. Nothing changes where no place is left. The push of Bsys shares the name alone.
     pub(crate) fn push<const W: usize>(
         &mut self,
         w: Place,

@@ -63,7 +63,7 @@ impl SysBranch {
         ieee::max(left + run.bytes - rate * span, 0.0)
     }
 
-    // A run goes into Bsys, at the rate around its time; an overflow goes to slot k.
+    // The push of a ring shares the name alone. A run goes into Bsys, at the rate around its time; an overflow goes to slot k.
     // Ruled out: an overflow at 1536 bytes without the byte of tolerance; the gap before the first run drained.
     #[tactic(auto, unfolding(crate::specs::SysBranch::push_sys, crate::specs::SysBranch::sys_events))]
     pub fn push(self, run: Run, rate: f64, slots: &mut Slots, k: usize) -> SysBranch

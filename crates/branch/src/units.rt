@@ -10,7 +10,7 @@ use crate::{AccessUnit, Delivered, QueueFull};
 use events::{Event, Slots};
 
 // The units that are pending, in a ring of the work, and the one whose bytes still arrive; and what the removals tell. Place and
-// work are handed on beside it (see Place), and the slots beside k (see MainModel).
+// work are handed on beside it (see Place), and the slots beside k (see MainModel). Its close and remove are what those of the branches call.
 #[derive(Clone, Copy)]
 pub struct Units {
     pub pending: Ring,

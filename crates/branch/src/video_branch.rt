@@ -25,7 +25,8 @@ pub struct VideoModel {
     pub depth: usize,
 }
 
-// The branch behind the transport buffer.
+// The branch behind the transport buffer. Functions of its names stand in MainBranch too, and no trait over both: what both do is in `Units`,
+// and the rest differs (lib.rt). Apart is asked by the functions that write, and no invariant of VideoLayout: the leak's, which read, take any.
 #[derive(Clone, Copy)]
 pub struct VideoBranch {
     pub leak: Leak,

@@ -104,7 +104,8 @@ struct Places {
     extension: usize,
 }
 
-// An adaptation field that has flags: the whole of it, its length byte first, and its byte of flags.
+// An adaptation field that has flags: the whole of it, its length byte first, and its byte of flags. That the flags are those of the bytes is
+// asked by its three methods: one field is made for all of them, and as an invariant it would be shown there and read out again in each.
 #[derive(Clone, Copy)]
 struct Field<'a> {
     raw: &'a [u8],
