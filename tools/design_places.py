@@ -40,7 +40,7 @@ def items(text, word):
 
 
 def parameters(head):
-    m = re.search(r"\(([^()]*(?:\([^()]*\)[^()]*)*)\)", head)
+    m = re.search(r"\(([^()]*(?:\([^()]*\)[^()]*)*)\)", head.replace("pub(crate)", "pub"))
     found = []
     for part in re.split(r",(?![^\[]*\])", m.group(1) if m else ""):
         part = part.strip()
