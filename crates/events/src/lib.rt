@@ -23,7 +23,7 @@ pub enum Event {
 }
 
 impl Event {
-    // The place of its kind's slot among those of a chain. Ruled out: two kinds in one slot; a place past 5.
+    // The place of its kind's slot among those of a chain: a number, as slots are counted, and `at` goes back. Ruled out: two kinds in one slot; a place past 5.
     #[tactic(auto, unfolding(crate::specs::Event::kind_of))]
     pub fn place(self) -> usize
         ensures { result ≡ kind_of self }
@@ -84,7 +84,7 @@ impl Event {
     }
 }
 
-// The count of the events, and of slot k, from 1 to 63, the number of its first event in firsts[k] (0: none yet), its largest figure in
+// The count of the events, and of slot k, from 1 to 63, the number of its first event in firsts[k] (0: none yet, since the count begins at 1), its largest figure in
 // figures[k], and the decode time of its first event in decode_times[k]; index 0 is no slot's. Lists and not one of structs, since the order
 // of the slots goes by the first numbers alone: `first_slots` and `NextSlot` in `summary`, and their laws, are over that list.
 #[derive(Clone, Copy)]

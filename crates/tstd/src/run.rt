@@ -53,7 +53,7 @@ fn ends(config: TStdConfig, count: usize, work: &mut [f64], ran: Ran) -> Result<
     })
 }
 
-// The loop is a while, since a skip moves k on.
+// The loop is a while, since a skip moves k on. Times, place and count are a Position for a skip alone: each packet moves each of them.
 #[tactic(auto, using(crate::proofs::Owning::pid_small))]
 pub(crate) fn run(
     config: TStdConfig,
