@@ -1,6 +1,6 @@
 // The branches behind the transport buffer (H.222.0, 2.4.2.3), with their queues in lent work.
 // MainBranch and VideoBranch have functions of the same names, ready, close, step, finish, deliver and remove, and no trait: what both do stands in
-// `Units`, and the rest differs, since Bn is emptied a unit at a time and MBn leaks into EBn. A trait would have two impls and a caller that
+// `Units`, but for three tests of `ready` on the units and the slots, a line each, and the rest differs, since Bn is emptied a unit at a time and MBn leaks into EBn. A trait would have two impls and a caller that
 // matches on the kind of a stream all the same. A push into Bsys and one into a ring share the name alone.
 #![tactic(auto)]
 
