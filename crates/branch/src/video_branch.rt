@@ -6,7 +6,8 @@ ghost use Rattle.branch.specs.VideoStep.{add_run, deliver as deliverOf};
 ghost use Rattle.branch.specs.VideoInWork.{rates_of, video_of, VideoLies, RemovedBy, AdvancedTo, chain_of, Apart, VideoFedTo, QueuedTo, MarkedTo, layout_of, ready as readyOf, SteppedTo, StepOf, FinishOf, CloseOf, new_branch};
 
 use crate::inflow::CumulativeIn;
-use crate::leak::{Flow, Leak, VideoLayout};
+// The leak's types stand in a file of their own, and go by this module's name too.
+pub use crate::leak::{Flow, Headers, Leak, Looked, Turned, VideoLayout};
 use crate::queue::{Place, Ring};
 use crate::units::{Units, note_removal};
 use crate::{AccessUnit, Delivered, HeaderMark, QueueFull, Run};
