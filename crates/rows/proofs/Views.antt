@@ -38,19 +38,19 @@ module _ (i : ℕ) where
       let at = part (32 * i) 0 5 k h in
       rw (at 0 (omega arith) (omega arith), at 1 (omega arith) (omega arith), at 2 (omega arith) (omega arith), at 3 (omega arith) (omega arith), at 4 (omega arith) (omega arith))
 
-  main_kept : ReadsPart 5 13 0 6 main_in i
+  main_kept : ReadsPart 5 13 0 5 main_in i
   unfolding main_in
   main_kept lo hi lo' hi' l v n o k h k' h' =
       let at = part (32 * i) 5 13 k h in
-      let of = part (16 * i) 0 6 k' h' in
-      rw (of 0 (omega arith) (omega arith), of 1 (omega arith) (omega arith), of 2 (omega arith) (omega arith), of 3 (omega arith) (omega arith), of 4 (omega arith) (omega arith), of 5 (omega arith) (omega arith), at 5 (omega arith) (omega arith), at 6 (omega arith) (omega arith), at 7 (omega arith) (omega arith), at 8 (omega arith) (omega arith), at 9 (omega arith) (omega arith), at 10 (omega arith) (omega arith), at 11 (omega arith) (omega arith), at 12 (omega arith) (omega arith))
+      let of = part (16 * i) 0 5 k' h' in
+      rw (of 0 (omega arith) (omega arith), of 1 (omega arith) (omega arith), of 2 (omega arith) (omega arith), of 3 (omega arith) (omega arith), of 4 (omega arith) (omega arith), at 5 (omega arith) (omega arith), at 6 (omega arith) (omega arith), at 7 (omega arith) (omega arith), at 8 (omega arith) (omega arith), at 9 (omega arith) (omega arith), at 10 (omega arith) (omega arith), at 11 (omega arith) (omega arith), at 12 (omega arith) (omega arith))
 
-  video_kept : ReadsPart 13 28 6 14 video_in i
+  video_kept : ReadsPart 13 28 5 12 video_in i
   unfolding video_in
   video_kept lo hi lo' hi' l v n o k h k' h' =
       let at = part (32 * i) 13 28 k h in
-      let of = part (16 * i) 6 14 k' h' in
-      rw (of 6 (omega arith) (omega arith), of 7 (omega arith) (omega arith), of 8 (omega arith) (omega arith), of 9 (omega arith) (omega arith), of 10 (omega arith) (omega arith), of 11 (omega arith) (omega arith), of 12 (omega arith) (omega arith), of 13 (omega arith) (omega arith), at 13 (omega arith) (omega arith), at 14 (omega arith) (omega arith), at 15 (omega arith) (omega arith), at 16 (omega arith) (omega arith), at 17 (omega arith) (omega arith), at 18 (omega arith) (omega arith), at 19 (omega arith) (omega arith), at 20 (omega arith) (omega arith), at 21 (omega arith) (omega arith), at 22 (omega arith) (omega arith), at 23 (omega arith) (omega arith), at 24 (omega arith) (omega arith), at 25 (omega arith) (omega arith), at 26 (omega arith) (omega arith), at 27 (omega arith) (omega arith))
+      let of = part (16 * i) 5 12 k' h' in
+      rw (of 5 (omega arith) (omega arith), of 6 (omega arith) (omega arith), of 7 (omega arith) (omega arith), of 8 (omega arith) (omega arith), of 9 (omega arith) (omega arith), of 10 (omega arith) (omega arith), of 11 (omega arith) (omega arith), at 13 (omega arith) (omega arith), at 14 (omega arith) (omega arith), at 15 (omega arith) (omega arith), at 16 (omega arith) (omega arith), at 17 (omega arith) (omega arith), at 18 (omega arith) (omega arith), at 19 (omega arith) (omega arith), at 20 (omega arith) (omega arith), at 21 (omega arith) (omega arith), at 22 (omega arith) (omega arith), at 23 (omega arith) (omega arith), at 24 (omega arith) (omega arith), at 25 (omega arith) (omega arith), at 26 (omega arith) (omega arith), at 27 (omega arith) (omega arith))
 
   scanner_kept : {lo hi : ℕ} {l v : List ℕ} → Kept 0 lo hi l v → (16 * i + 16 ≤ lo) ⊎ (hi ≤ 16 * i + 0) → scanner_in v i ≡ scanner_in l i
   unfolding scanner_in
@@ -64,10 +64,10 @@ module _ (i : ℕ) where
   tb_leaves f f' k k' read m h n o = m _ _ (16 * i + k') (16 * i + k') _ _ _ _ o (inr (omega arith)) kept_refl (inl (omega arith))
 
   pub tb_leaves_main : {l v : List Float} (n : List ℕ) → OnlyTb i l v → main_in v n i ≡ main_in l n i
-  tb_leaves_main = tb_leaves 5 13 0 6 main_in main_kept (omega arith)
+  tb_leaves_main = tb_leaves 5 13 0 5 main_in main_kept (omega arith)
 
   pub tb_leaves_video : {l v : List Float} (n : List ℕ) → OnlyTb i l v → video_in v n i ≡ video_in l n i
-  tb_leaves_video = tb_leaves 13 28 6 14 video_in video_kept (omega arith)
+  tb_leaves_video = tb_leaves 13 28 5 12 video_in video_kept (omega arith)
 
   module _ {l v : List Float} {n o : List ℕ} where
     pub main_leaves_tb : OnlyMain i l v n o → tb_in v i ≡ tb_in l i
@@ -127,10 +127,10 @@ module _ {i : ℕ} {r v : Rows} (o : OnlyChain i r v) (j : ℕ) (n : j ≢ i) wh
   part_other f f' k k' read m g h = m _ _ _ _ _ _ _ _ o.floats (⊎_elim (λ x. inl (omega arith)) (λ x. inr (omega arith)) apart) o.counts (⊎_elim (λ x. inl (omega arith)) (λ x. inr (omega arith)) apart)
 
   pub main_other : main_in v.floats v.counts j ≡ main_in r.floats r.counts j
-  main_other = part_other 5 13 0 6 main_in (main_kept j) (omega arith) (omega arith)
+  main_other = part_other 5 13 0 5 main_in (main_kept j) (omega arith) (omega arith)
 
   pub video_other : video_in v.floats v.counts j ≡ video_in r.floats r.counts j
-  video_other = part_other 13 28 6 14 video_in (video_kept j) (omega arith) (omega arith)
+  video_other = part_other 13 28 5 12 video_in (video_kept j) (omega arith) (omega arith)
 
   pub scanner_other : scanner_in v.bytes j ≡ scanner_in r.bytes j
   scanner_other = scanner_kept j o.bytes (⊎_elim (λ x. inl (omega arith)) (λ x. inr (omega arith)) apart)

@@ -1,8 +1,8 @@
 -- The rows of eight chains as lists: which field of a chain stands at which place, what is read of a chain and what a store leaves.
-use Rattle.std.specs.Prelude.{ℕ, ◌+◌, ◌*◌, ◌/◌, ◌%◌, ◌≤◌, ◌<◌, ◌≡◌, cond, List, [], ◌∷◌, ◌++◌, ◌⊎◌, length, get_or, eqb, ltb, Option, Some, None, Float}
+use Rattle.std.specs.Prelude.{ℕ, ◌+◌, ◌*◌, ◌/◌, ◌%◌, ◌≤◌, ◌<◌, ◌≡◌, true, cond, List, [], ◌∷◌, ◌++◌, ◌⊎◌, length, get_or, eqb, ltb, Option, Some, None, Float}
 use Rattle.std.specs.Float.{nan}
-use Rattle.std.specs.Option.{is_some}
-use Rattle.ieee.specs.Binary64.{0f}
+use Rattle.std.specs.Float.Ieee.{ne}
+use Rattle.ieee.specs.Binary64.{0f, -∞}
 use Rattle.rows.specs.declared.Rows.{Rows}
 use Rattle.fifo.specs.declared.FluidFifo.{FluidFifo}
 use Rattle.fifo.specs.FluidFifo.{new}
@@ -12,6 +12,7 @@ use Rattle.branch.specs.declared.units.Units.{Units}
 use Rattle.branch.specs.declared.main_branch.MainBranch.{MainBranch}
 use Rattle.branch.specs.declared.leak.Leak.{Leak}
 use Rattle.branch.specs.declared.video_branch.VideoBranch.{VideoBranch}
+use Rattle.branch.specs.Units.{open_of}
 use Rattle.branch.specs.Stores.{store_from}
 use Rattle.branch.specs.MainInWork as main-work
 use Rattle.branch.specs.VideoInWork as video-work
@@ -35,20 +36,19 @@ tb_floats t = t.rate ∷ t.virtual_done ∷ t.busy_since ∷ t.peak ∷ t.longes
 abbrev pub ring_counts : Ring → List ℕ
 ring_counts q = q.head ∷ q.count ∷ []
 
--- the floats of an open unit are 0 where none is open
+-- where no unit is open, its floats are -∞, 0 and 0
 unfoldable pub held : Option AccessUnit → AccessUnit
-held None = record { decode_time = 0f; bytes = 0f; first_input_time = 0f }
+held None = record { decode_time = -∞; bytes = 0f; first_input_time = 0f }
 held (Some u) = u
 
-abbrev pub units_floats : Units → List Float
-units_floats u = (held u.open_au).decode_time ∷ (held u.open_au).bytes ∷ (held u.open_au).first_input_time ∷ u.max_delay_seconds ∷ []
+abbrev pub open_floats : Option AccessUnit → List Float
+open_floats o = (held o).decode_time ∷ (held o).bytes ∷ (held o).first_input_time ∷ []
 
--- the last count is 1 where a unit is open
 abbrev pub units_counts : Units → List ℕ
-units_counts u = ring_counts u.pending ++ u.access_units ∷ cond (is_some u.open_au) 1 0 ∷ []
+units_counts u = ring_counts u.pending ++ u.access_units ∷ []
 
 abbrev pub main_floats : MainBranch → List Float
-main_floats b = b.inflow.settled ∷ b.removed ∷ b.required ∷ b.peak ∷ units_floats b.units
+main_floats b = b.inflow.settled ∷ open_floats b.units.open_au ++ b.removed ∷ b.required ∷ b.peak ∷ b.units.max_delay_seconds ∷ []
 
 abbrev pub main_counts : MainBranch → List ℕ
 main_counts b = ring_counts b.inflow.runs ++ units_counts b.units
@@ -71,7 +71,7 @@ abbrev pub leak_counts : Leak → List ℕ
 leak_counts k = ring_counts k.mb_in.runs ++ ring_counts k.flow.marks
 
 abbrev pub video_floats : VideoBranch → List Float
-video_floats b = leak_floats b.leak ++ b.queued ∷ b.eb_required ∷ units_floats b.units
+video_floats b = leak_floats b.leak ++ open_floats b.units.open_au ++ b.queued ∷ b.eb_required ∷ b.units.max_delay_seconds ∷ []
 
 abbrev pub video_counts : VideoBranch → List ℕ
 video_counts b = leak_counts b.leak ++ units_counts b.units
@@ -109,39 +109,35 @@ tb_at l b =
       longest_busy = get_or l (b + 4) nan;
     }
 
--- the ring from the place k on
+-- the ring with its head and its count at these places
 abbrev pub ring_at : List ℕ → ℕ → ℕ → Ring
-ring_at n c k = record { head = get_or n (c + k) 0; count = get_or n (c + (k + 1)) 0 }
+ring_at n head count = record { head = get_or n head 0; count = get_or n count 0 }
 
--- the units from the places f and k on
-abbrev pub units_at : List Float → List ℕ → ℕ → ℕ → ℕ → ℕ → Units
-units_at l n b f c k =
-    record {
-      pending = ring_at n c k;
-      open_au =
-          cond (eqb (get_or n (c + (k + 3)) 0) 1)
-          (Some (record { decode_time = get_or l (b + f) nan; bytes = get_or l (b + (f + 1)) nan; first_input_time = get_or l (b + (f + 2)) nan }))
-          None;
-      access_units = get_or n (c + (k + 2)) 0;
-      max_delay_seconds = get_or l (b + (f + 3)) nan;
-    }
+-- the open unit from the place f on: none where its decode time is -∞
+abbrev pub open_at : List Float → ℕ → ℕ → Option AccessUnit
+open_at l b f = open_of (record { decode_time = get_or l (b + f) nan; bytes = get_or l (b + (f + 1)) nan; first_input_time = get_or l (b + (f + 2)) nan })
 
 abbrev pub main_at : List Float → List ℕ → ℕ → ℕ → MainBranch
 main_at l n b c =
     record {
-      inflow = record { runs = ring_at n c 0; settled = get_or l (b + 5) nan };
-      units = units_at l n b 9 c 2;
-      removed = get_or l (b + 6) nan;
-      required = get_or l (b + 7) nan;
-      peak = get_or l (b + 8) nan;
+      inflow = record { runs = ring_at n (c + 0) (c + 1); settled = get_or l (b + 5) nan };
+      units = record {
+        pending = ring_at n (c + 2) (c + 3);
+        open_au = open_at l b 6;
+        access_units = get_or n (c + 4) 0;
+        max_delay_seconds = get_or l (b + 12) nan;
+      };
+      removed = get_or l (b + 9) nan;
+      required = get_or l (b + 10) nan;
+      peak = get_or l (b + 11) nan;
     }
 
 abbrev pub video_leak_at : List Float → List ℕ → ℕ → ℕ → Leak
 video_leak_at l n b c =
     record {
-      mb_in = record { runs = ring_at n c 6; settled = get_or l (b + 13) nan };
+      mb_in = record { runs = ring_at n (c + 5) (c + 6); settled = get_or l (b + 13) nan };
       flow = record {
-        marks = ring_at n c 8;
+        marks = ring_at n (c + 7) (c + 8);
         transferred = get_or l (b + 14) nan;
         eb_in = get_or l (b + 15) nan;
         eb_removed = get_or l (b + 16) nan;
@@ -157,9 +153,14 @@ abbrev pub video_at : List Float → List ℕ → ℕ → ℕ → VideoBranch
 video_at l n b c =
     record {
       leak = video_leak_at l n b c;
-      units = units_at l n b 24 c 10;
-      queued = get_or l (b + 22) nan;
-      eb_required = get_or l (b + 23) nan;
+      units = record {
+        pending = ring_at n (c + 9) (c + 10);
+        open_au = open_at l b 22;
+        access_units = get_or n (c + 11) 0;
+        max_delay_seconds = get_or l (b + 27) nan;
+      };
+      queued = get_or l (b + 25) nan;
+      eb_required = get_or l (b + 26) nan;
     }
 
 abbrev pub scanner_at : List ℕ → ℕ → PesScanner
@@ -219,10 +220,28 @@ unfoldable pub stored_video_floats : List Float → ℕ → VideoBranch → List
 stored_video_floats l i b = cond (ltb i 8) (store_from l (32 * i) 13 (video_floats b)) l
 
 unfoldable pub stored_video_counts : List ℕ → ℕ → VideoBranch → List ℕ
-stored_video_counts n i b = cond (ltb i 8) (store_from n (16 * i) 6 (video_counts b)) n
+stored_video_counts n i b = cond (ltb i 8) (store_from n (16 * i) 5 (video_counts b)) n
 
 unfoldable pub stored_scanner : List ℕ → ℕ → PesScanner → List ℕ
 stored_scanner l i s = cond (ltb i 8) (store_from l (16 * i) 0 (scanner_bytes s)) l
+
+-- ---- what a store tells
+
+-- an open unit has a decode time other than -∞, so that it is told from none
+abbrev pub Told : Option AccessUnit → Type 0
+Told None = Unit
+Told (Some u) = ne u.decode_time -∞ ≡ true
+
+-- the units that are read again: an open one that isn't told is none
+abbrev pub units_again : Units → Units
+units_again u = record { pending = u.pending; open_au = open_of (held u.open_au); access_units = u.access_units; max_delay_seconds = u.max_delay_seconds }
+
+-- and the branches
+abbrev pub main_again : MainBranch → MainBranch
+main_again b = record { inflow = b.inflow; units = units_again b.units; removed = b.removed; required = b.required; peak = b.peak }
+
+abbrev pub video_again : VideoBranch → VideoBranch
+video_again b = record { leak = b.leak; units = units_again b.units; queued = b.queued; eb_required = b.eb_required }
 
 -- ---- what a change leaves
 
@@ -242,11 +261,11 @@ pub record OnlyPart (f f' k k' : ℕ) (i : ℕ) (l v : List Float) (n o : List �
 
 -- nothing but its main branch
 abbrev pub OnlyMain : ℕ → List Float → List Float → List ℕ → List ℕ → Type 0
-OnlyMain i l v n o = OnlyPart 5 13 0 6 i l v n o
+OnlyMain i l v n o = OnlyPart 5 13 0 5 i l v n o
 
 -- nothing but its video branch
 abbrev pub OnlyVideo : ℕ → List Float → List Float → List ℕ → List ℕ → Type 0
-OnlyVideo i l v n o = OnlyPart 13 28 6 14 i l v n o
+OnlyVideo i l v n o = OnlyPart 13 28 5 12 i l v n o
 
 -- nothing but its scanner
 abbrev pub OnlyScanner : ℕ → List ℕ → List ℕ → Type 0

@@ -1,6 +1,7 @@
 // The state of eight chains in rows of numbers that a caller lends, for a replay that is taken up again: of each chain 32 floats, 16
 // counts and 16 bytes. No crate uses it yet. `places` names the place of every field. There is no chain behind the eighth: nothing is
-// stored for one, and what is read of one is new. The lengths of the rings are cast, since Rust has no `From` between usize and u64.
+// stored for one, and what is read of one is new. The functions take the rows that they read or write, and Rows holds all three. The
+// lengths of the rings are cast, since Rust has no `From` between usize and u64.
 #![tactic(auto)]
 
 pub mod main_row;
@@ -19,6 +20,7 @@ pub const BYTES: usize = 128;
 const CHAINS: usize = 8;
 
 // Chain i has the floats from 32 i on, and the counts and the bytes from 16 i on.
+#[derive(Clone, Copy)]
 pub struct Rows {
     pub floats: [f64; FLOATS],
     pub counts: [u64; COUNTS],

@@ -1,5 +1,4 @@
-// Where the fields of a chain stand in its floats, counts and bytes. Floats 28 to 31 and counts 14 and 15 are free. Units take four
-// floats and four counts in a row, a ring two counts.
+// Where the fields of a chain stand in its floats, counts and bytes. Floats 28 to 31 and counts 12 to 15 are free.
 
 pub(crate) const TB_RATE: usize = 0;
 
@@ -13,13 +12,19 @@ pub(crate) const TB_LONGEST_BUSY: usize = 4;
 
 pub(crate) const MAIN_SETTLED: usize = 5;
 
-pub(crate) const MAIN_REMOVED: usize = 6;
+pub(crate) const MAIN_DECODE_TIME: usize = 6;
 
-pub(crate) const MAIN_REQUIRED: usize = 7;
+pub(crate) const MAIN_BYTES: usize = 7;
 
-pub(crate) const MAIN_PEAK: usize = 8;
+pub(crate) const MAIN_FIRST_INPUT_TIME: usize = 8;
 
-pub(crate) const MAIN_UNITS: usize = 9;
+pub(crate) const MAIN_REMOVED: usize = 9;
+
+pub(crate) const MAIN_REQUIRED: usize = 10;
+
+pub(crate) const MAIN_PEAK: usize = 11;
+
+pub(crate) const MAIN_MAX_DELAY: usize = 12;
 
 pub(crate) const VIDEO_SETTLED: usize = 13;
 
@@ -39,23 +44,43 @@ pub(crate) const VIDEO_MB_PEAK: usize = 20;
 
 pub(crate) const VIDEO_PROC_TIME: usize = 21;
 
-pub(crate) const VIDEO_QUEUED: usize = 22;
+pub(crate) const VIDEO_DECODE_TIME: usize = 22;
 
-pub(crate) const VIDEO_EB_REQUIRED: usize = 23;
+pub(crate) const VIDEO_BYTES: usize = 23;
 
-pub(crate) const VIDEO_UNITS: usize = 24;
+pub(crate) const VIDEO_FIRST_INPUT_TIME: usize = 24;
+
+pub(crate) const VIDEO_QUEUED: usize = 25;
+
+pub(crate) const VIDEO_EB_REQUIRED: usize = 26;
+
+pub(crate) const VIDEO_MAX_DELAY: usize = 27;
 
 // The counts.
 
-pub(crate) const MAIN_RUNS: usize = 0;
+pub(crate) const MAIN_RUNS_HEAD: usize = 0;
 
-pub(crate) const MAIN_UNITS_COUNTS: usize = 2;
+pub(crate) const MAIN_RUNS_COUNT: usize = 1;
 
-pub(crate) const VIDEO_RUNS: usize = 6;
+pub(crate) const MAIN_PENDING_HEAD: usize = 2;
 
-pub(crate) const VIDEO_MARKS: usize = 8;
+pub(crate) const MAIN_PENDING_COUNT: usize = 3;
 
-pub(crate) const VIDEO_UNITS_COUNTS: usize = 10;
+pub(crate) const MAIN_ACCESS_UNITS: usize = 4;
+
+pub(crate) const VIDEO_RUNS_HEAD: usize = 5;
+
+pub(crate) const VIDEO_RUNS_COUNT: usize = 6;
+
+pub(crate) const VIDEO_MARKS_HEAD: usize = 7;
+
+pub(crate) const VIDEO_MARKS_COUNT: usize = 8;
+
+pub(crate) const VIDEO_PENDING_HEAD: usize = 9;
+
+pub(crate) const VIDEO_PENDING_COUNT: usize = 10;
+
+pub(crate) const VIDEO_ACCESS_UNITS: usize = 11;
 
 // The bytes: the scanner, with its count in two of them.
 
