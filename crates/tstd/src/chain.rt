@@ -1,6 +1,6 @@
 // A stream's chain: its transport buffer, its scanner and its branch. Work and slots are handed on beside it, the slots beside k, where those of the
 // chain begin, as `branch` says at MainModel.
-ghost use Rattle.std.specs.Prelude.{◌≡◌, ◌<◌, ◌≤◌};
+ghost use Rattle.std.specs.Prelude.{◌≡◌, ◌≤◌};
 ghost use Rattle.tstd.specs.Chain.{new_branch, new_chain, ChainsOf, scanned, StepOf, FinishOf, PacketOf, EndOf};
 
 use crate::front;
@@ -150,7 +150,6 @@ impl Chain {
         slots: &mut Slots,
         k: usize,
     ) -> Result<(), QueueFull>
-        requires { k < 64 }
         ensures { EndOf work.old self.old k slots.old result self.new work.new slots.new }
     {
         front::note_tb(self.tb, slots, k);
