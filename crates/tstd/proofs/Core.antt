@@ -204,7 +204,7 @@ module _ (c : TStdConfig) (l : List ℕ) (y : TsPacketLayout) (times : List Floa
         module _ {result : Result RanState Refusal} {work' : List Float} (to : RanTo pass result work') where
           pub queue_refused : {a : Result Answer Refusal} {x : Refusal} → result ≡ Err x → a ≡ Err x → ReplayedAt c l y times places a (work' ++ t) p
           unfolding answered
-          queue_refused {a} {x} f p = record { outcome = rw (runs_at, to.refused x f (n + 1)) p; times_are = times_kept work' (to.work_size ∙ long); places_are = places_kept }
+          queue_refused {a} {x} f p = record { outcome = rw (runs_at, to.refused x f (n + 1)) p; times_are = times_kept work' (to.outside.size ∙ long); places_are = places_kept }
 
           report_is : (ran : RanState) (f : Finished pass to.ready ran work') → report_in c ran (n + 1) ≡ report_of c (n + 1) f.state
           unfolding report_in report_of
@@ -222,7 +222,7 @@ module _ (c : TStdConfig) (l : List ℕ) (y : TsPacketLayout) (times : List Floa
           pub passes_accepted : {ran : RanState} {a : Answer} → result ≡ Ok ran → a ≡ accepted_of c ran (n + 1) → ReplayedAt c l y times places (Ok a) (work' ++ t) p
           passes_accepted {ran} f r =
               let x = to.finishes ran f in
-              record { outcome = ap Ok r ∙ accepted_is ran x ∙ ap answered (sym (runs_at ∙ x.outcome (n + 1))); times_are = times_kept work' (to.work_size ∙ long); places_are = places_kept }
+              record { outcome = ap Ok r ∙ accepted_is ran x ∙ ap answered (sym (runs_at ∙ x.outcome (n + 1))); times_are = times_kept work' (to.outside.size ∙ long); places_are = places_kept }
 
 -- ---- the whole replay
 

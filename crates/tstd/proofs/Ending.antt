@@ -1,5 +1,5 @@
 -- The loop over the ends of the streams of pass 2: its turns, and how it ends.
-use Rattle.std.proofs.Common.{◌≡◌, ℕ, suc, ◌+◌, ◌*◌, ◌<◌, true, false, List, get_or, set, refl, ◌∙◌, subst, arith}
+use Rattle.std.proofs.Common.{◌≡◌, ℕ, suc, ◌+◌, ◌*◌, ◌<◌, true, false, List, get_or, set, refl, subst, arith}
 use Rattle.std.specs.Prelude.{⊤, Result, Ok, Err, is_err}
 use lib.Ieee.{Float}
 use Rattle.ieee.specs.Binary64.{0f}
@@ -7,6 +7,7 @@ use Rattle.error.specs.declared.Refusal.{Refusal}
 use Rattle.events.specs.declared.Slots.{Slots}
 use Rattle.events.specs.Slots.{noted_all}
 use Rattle.branch.specs.declared.QueueFull.{QueueFull}
+use Rattle.branch.proofs.Rings.{next_multiple, outside_then, outside_wider}
 use Rattle.transport.specs.Arrive.{nothing}
 use Rattle.model.specs.Chain.{step_branch, tb_events}
 use Rattle.model.specs.Replay.{State, stream_at, chain_at}
@@ -56,7 +57,7 @@ module _ (g : Pass) (ready : Ready g) (i : ℕ) (r : RanState) (w : List Float) 
   end_refuses e x f =
       record {
         ready = ready;
-        work_size = step.outside.size ∙ now.at.work_size;
+        outside = outside_then now.at.outside (outside_wider (omega arith) (next_multiple (8 * depth_of g) i (stream_count g) used) step.outside);
         refused = λ z same k.
             (let z-is : x ≡ z = cc in
             rw (← z-is, f)
@@ -85,7 +86,7 @@ pub ends_through : (g : Pass) (ready : Ready g) (i : ℕ) (r : RanState) (w : Li
 ends_through g ready i r w now e =
     record {
       ready = ready;
-      work_size = now.at.work_size;
+      outside = now.at.outside;
       refused = λ x f. absurd (cc);
       finishes = λ z f.
           (let same : r ≡ z = cc in

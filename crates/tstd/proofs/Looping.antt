@@ -15,7 +15,7 @@ use Rattle.events.specs.declared.Slots.{Slots}
 use Rattle.events.specs.Slots.{noted_all}
 use Rattle.branch.specs.declared.QueueFull.{QueueFull}
 use Rattle.branch.specs.SysBranch.{rsys_of, sys_events}
-use Rattle.branch.proofs.Rings.{next_multiple}
+use Rattle.branch.proofs.Rings.{next_multiple, outside_refl, outside_then, outside_wider}
 use Rattle.profile.specs.declared.owner.Owner.{Owner}
 use Rattle.profile.specs.Config.{streams_of, unused_stream}
 use Rattle.profile.specs.declared.owner.Pids.{Pids}
@@ -36,7 +36,7 @@ use Rattle.tstd.specs.Chain.{unused_chain, ChainsOf, arrived, PacketOf}
 use Rattle.tstd.specs.Times.{start_times, next_times}
 use Rattle.tstd.specs.Front.{new_system, system_run, system_pushed}
 use Rattle.tstd.specs.Skips.{IsFree, IsUnparsed, SameInterval, free_times, unparsed_times, window_at, Passing, no_more, one_free, one_unparsed, Skips}
-use Rattle.tstd.specs.Run.{Pass, stream_count, depth_of, Ready, packets_left, whole, Reached, before_all, one_more, At, queue_full, Through, RanTo}
+use Rattle.tstd.specs.Run.{Pass, stream_count, depth_of, work_length, Ready, packets_left, whole, Reached, before_all, one_more, At, queue_full, Through, RanTo}
 use Rattle.tstd.proofs.Going.{packet_goes, packets_gone}
 use Rattle.tstd.proofs.Steps.{PacketIs, packet_is, window_is, count_few, streams_counted, stream_used}
 use Rattle.tstd.proofs.Turns.{Turned, Moves, replaced_set, stream_full, stream_turns}
@@ -86,7 +86,7 @@ module _ (g : Pass) (ready : Ready g) where
       record {
         state = started g.config;
         now = record {
-          work_size = refl;
+          outside = outside_refl 0 (work_length g) g.work;
           size = ec.size;
           chains_size = length-map (streams_of g.config) definition.new_chain ∙ streams_counted g ready;
           chains = λ i h. rw (ec.at i (omega arith), first_chain i h) (new_is g.work (8 * depth_of g * i) (depth_of g) ready.some_depth (in_work i h) (stream_at g.config i));
@@ -260,7 +260,7 @@ module _ (g : Pass) (ready : Ready g) (k at : ℕ) (w : List Float) (cs : List C
           rw eu
           (record {
             ready = ready;
-            work_size = step.outside.size ∙ inv.now.work_size;
+            outside = outside_then inv.now.outside (outside_wider (omega arith) (next_multiple (8 * depth_of g) i (stream_count g) moves.in_use) step.outside);
             refused = λ z same n.
                 (let z-is : x ≡ z = cc in
                 rw (← z-is, f)

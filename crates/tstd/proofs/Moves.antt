@@ -240,7 +240,7 @@ module _ (g : Pass) (ready : Ready g) (k : ℕ) (w : List Float) (cs : List Chai
             state = system_step g.config (clock_of g) (188 * k) timed;
             step = step_owned _ (fact_other g.layout g.recording k x p.parse (streams_read g.config) off) ∙ rw o refl;
             at = record {
-              work_size = now.work_size;
+              outside = now.outside;
               size = now.size;
               chains_size = now.chains_size;
               chains = λ j l. chain_more (now.chains j l) (omega arith);
@@ -265,7 +265,7 @@ module _ (g : Pass) (ready : Ready g) (k : ℕ) (w : List Float) (cs : List Chai
           state = timed;
           step = step_owned _ (fact_other g.layout g.recording k x p.parse (streams_read g.config) (read_stream g.config x.pid ∙ ap ownership.is_stream o)) ∙ rw o refl;
           at = record {
-            work_size = now.work_size;
+            outside = now.outside;
             size = now.size;
             chains_size = now.chains_size;
             chains = λ j l. chain_more (now.chains j l) (omega arith);
@@ -287,7 +287,7 @@ module _ (g : Pass) (ready : Ready g) (k : ℕ) (w : List Float) (cs : List Chai
         state = s;
         step = step_unparsed g k s h f;
         at = record {
-          work_size = now.work_size;
+          outside = now.outside;
           size = now.size;
           chains_size = now.chains_size;
           chains = λ j l. chain_more (now.chains j l) (omega arith);

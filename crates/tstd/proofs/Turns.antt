@@ -12,7 +12,7 @@ use Rattle.events.proofs.Noted.{noted_all_append_lem}
 use Rattle.std.specs.Prelude.{⊤, Result, is_err}
 use Rattle.branch.specs.declared.Delivered.{Delivered}
 use Rattle.branch.specs.declared.QueueFull.{QueueFull}
-use Rattle.branch.proofs.Rings.{next_multiple}
+use Rattle.branch.proofs.Rings.{next_multiple, outside_then, outside_wider}
 use Rattle.profile.specs.declared.owner.Owner.{Owner}
 use Rattle.profile.specs.declared.config.TStdStream.{TStdStream}
 use Rattle.profile.specs.Config.{unused_stream}
@@ -156,7 +156,7 @@ module _ (g : Pass) (ready : Ready g) (k : ℕ) (w u : List Float) (cs cs' : Lis
           state = after;
           step = steps_on f;
           at = record {
-            work_size = x.outside.size ∙ now.work_size;
+            outside = outside_then now.outside (outside_wider (omega arith) (next_multiple (8 * depth_of g) i (stream_count g) m.in_use) x.outside);
             size = rc.size;
             chains_size = length-set m.timed.chains i chain ∙ ap length m.chains ∙ now.chains_size;
             chains = λ j h. chains_at j h (same_or_other j i);

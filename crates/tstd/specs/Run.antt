@@ -10,6 +10,7 @@ use Rattle.arrival.specs.Work.{holds, intervals_in}
 use Rattle.arrival.specs.Bounds.{AllWithin}
 use Rattle.arrival.proofs.Covering.{AtEnd}
 use Rattle.events.specs.declared.Slots.{Slots}
+use Rattle.branch.specs.Queue.{SameOutside}
 use Rattle.profile.specs.declared.config.TStdConfig.{TStdConfig}
 use Rattle.profile.specs.declared.owner.Owner.{Owner}
 use Rattle.profile.specs.Config.{streams_of, unused_stream}
@@ -92,7 +93,7 @@ ChainAt g k w cs s i =
 
 -- behind k steps the state is s
 pub record At (g : Pass) (ready : Ready g) (k : ℕ) (w : List Float) (cs : List ChainState) (system : SystemChain) (times : Times) (sl : Slots) (s : State) : Type 0 where
-  pub work_size : length w ≡ length g.work
+  pub outside : SameOutside 0 (work_length g) g.work w
   pub size : length cs ≡ 8
   pub chains_size : length s.chains ≡ stream_count g
   pub chains : (i : ℕ) → i < stream_count g → ChainAt g k w cs s i
@@ -132,7 +133,7 @@ pub record Finished (g : Pass) (ready : Ready g) (r : RanState) (w : List Float)
 
 pub record RanTo (g : Pass) (result : Result RanState Refusal) (w : List Float) : Type 0 where
   pub ready : Ready g
-  pub work_size : length w ≡ length g.work
+  pub outside : SameOutside 0 (work_length g) g.work w
   pub refused : (x : Refusal) → result ≡ Err x → (samples : ℕ) → whole g samples ≡ refused_with x
   pub finishes : (r : RanState) → result ≡ Ok r → Finished g ready r w
 
