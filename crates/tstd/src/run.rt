@@ -66,7 +66,8 @@ pub(crate) fn run(
     requires { (0 < clock.count) × Ready (pass_of config bytes.now layout count work.old clock) }
     ensures { RanTo (pass_of config bytes.now layout count work.old clock.entry) result work.new }
 {
-    let owners = owners::owner_table(config.pids());
+    let mut owners = [0; owners::PIDS];
+    owners::owner_table(&mut owners, config.pids());
     let mut chains = chain::chains(config);
     let mut system = front::new_system();
     let mut slots = Slots::new();
