@@ -7,17 +7,18 @@ use native.Mathlib.Nat.{add-zero}
 use native.Mathlib.Omega.{arith}
 use lib.ListN.{length, get_or}
 use lib.Dec.{eqb, leb}
-use borrow.Author.Tests.{leb-true, eq-eqb, ne_eqb, le-leb}
+use borrow.Author.Tests.{eqb-true, leb-true, eq-eqb, ne_eqb, le-leb}
 use Rattle.std.proofs.lemmas.Bool.{and_parts, and_from}
 use Rattle.std.specs.Prelude.{Option, Some, None}
 use Rattle.std.specs.Option.{ok_or}
 use Rattle.error.specs.declared.Refusal.{Refusal}
 use Rattle.profile.specs.declared.config.TStdConfig.{TStdConfig}
 use Rattle.profile.specs.Range.{max_streams, max_system_pids}
-use Rattle.words.specs.Config.{slot_word, pid_fits, slot_fits, slots_fit, system_fits, profile_fits, branch_of, stream_at, config_at, config_of, SomeIf}
+use Rattle.words.specs.Config.{profile_len, slot_word, pid_fits, slot_fits, slots_fit, system_fits, profile_fits, branch_of, stream_at, config_at, config_of, SomeIf}
 
 -- what a profile that fits has
 pub record Fits (ws : List ℕ) : Type 0 where
+  pub size : length ws ≡ profile_len
   pub streams : get_or ws 1 0 ≤ max_streams
   pub system : get_or ws 2 0 ≤ max_system_pids
   pub pcr : get_or ws 0 0 < 65536
@@ -70,6 +71,7 @@ module _ (ws : List ℕ) where
       let three = (and_parts (a && b && d) f four).0 in
       let two = (and_parts (a && b) d three).0 in
       record {
+        size = eqb-true (length ws) 69 (and_parts a b two).0;
         streams = leb-true (get_or ws 1 0) 8 (and_parts a b two).1;
         system = leb-true (get_or ws 2 0) 16 (and_parts (a && b) d three).1;
         pcr = let p = leb-true (get_or ws 0 0) 65535 (and_parts (a && b && d) f four).1 in omega arith;
