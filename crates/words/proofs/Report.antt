@@ -6,7 +6,8 @@ use native.Mathlib.Omega.{arith}
 use borrow.Author.Tests.{eq-eqb, ne_eqb}
 use lib.ListN.{length, take, get_or, set, replicate, drop_of_length-le}
 use lib.Ieee.{Float, is_nan, to_bits, of_bits}
-use lib.Seq.{sets-eq, length-sets, take_all}
+use lib.Seq.{sets, sets-eq, length-sets, take_all}
+use Rattle.report.specs.declared.violation.ViolationFields.{ViolationFields}
 use Rattle.report.specs.declared.ViolationLine.{ViolationLine}
 use Rattle.report.specs.declared.TStdReport.{TStdReport}
 use Rattle.report.specs.Violation.{fields_of}
@@ -14,11 +15,23 @@ use Rattle.report.specs.Report.{unused_line}
 use Rattle.words.specs.Bits.{bits_of}
 use Rattle.words.specs.Report.{figure_word, fields_words, line_words, report_words, report_after}
 use borrow.Rule.Slice.PartMut.{put_mid}
-use Rattle.words.proofs.Stores.{Written, written_next, flat_length}
+use Rattle.words.proofs.Stores.{Written, written_next, flat_length, sets_five}
 
 pub line_size : (bits : Float → ℕ) (l : ViolationLine) → length (line_words bits l) ≡ 5
 unfolding line_words fields_words
 line_size bits l = refl
+
+-- the five words of a line, stored one by one
+module _ (bits : Float → ℕ) (l : ViolationLine) (ws : List ℕ) (at : ℕ) where
+  abbrev fs : ViolationFields
+  fs = fields_of l.violation
+
+  abbrev whole : List ℕ
+  whole = set (set (set ws at fs.kind) (at + 1) fs.pid) (at + 2) fs.limit
+
+  pub line_stored : set (set whole (at + 3) (bits fs.decode_time)) (at + 4) (figure_word bits fs.figure) ≡ sets ws at (line_words bits l)
+  unfolding line_words fields_words
+  line_stored = sets_five ws at fs.kind fs.pid fs.limit (bits fs.decode_time) (figure_word bits fs.figure)
 
 -- the first four words stored
 abbrev headed : List ℕ → (a b c d : ℕ) → List ℕ

@@ -1,13 +1,13 @@
 -- A loop that stores the words of each element of a list, one element after the other. Assumes nothing.
-use Prim.Native.Nat.{ℕ, ◌+◌, ◌*◌, ◌≤◌, ◌<◌}
+use Prim.Native.Nat.{ℕ, suc, ◌+◌, ◌*◌, ◌≤◌, ◌<◌}
 use mathlib.Core.Path.{◌≡◌, refl, sym, ap, ◌∙◌}
 use mathlib.Core.List.{List, [], ◌∷◌, ◌++◌, flat_map, append-nil, append_assoc}
 use borrow.Rule.Slice.PartMut.{put_mid}
 use native.Mathlib.Nat.{add-zero, mul-zero, mul-suc, add_assoc}
 use native.Mathlib.Omega.{arith}
 use native.Mathlib.Numerals.{add-one}
-use lib.ListN.{length, take, drop, get_or, length-append, length-drop, take-append-drop}
-use lib.Seq.{length-take-le, take-suc, take_at, drop-append-add, drop-drop}
+use lib.ListN.{length, take, drop, get_or, set, length-append, length-drop, take-append-drop}
+use lib.Seq.{sets, length-take-le, take-suc, take_at, drop-append-add, drop-drop}
 
 module _ {A : Type 0} (f : A → List ℕ) where
   flat_append : (xs ys : List A) → flat_map f (xs ++ ys) ≡ flat_map f xs ++ flat_map f ys
@@ -75,3 +75,20 @@ module _ {A : Type 0} (f : A → List ℕ) (w base : ℕ) (sized : (a : A) → l
               rw (e, n, is, front_kept, behind, next, flat_next f l i d h, ← append_assoc (take base before) (flat_map f (take i l)) (f (get_or l i d)))
               (sym (append_assoc front (f (get_or l i d)) (drop (at + w) before)));
         }
+
+-- ---- stores at the words behind a place
+module _ (l : List ℕ) (at : ℕ) where
+  one : at + 1 ≡ suc at
+  one = omega arith
+
+  two : at + 2 ≡ suc (suc at)
+  two = omega arith
+
+  three : at + 3 ≡ suc (suc (suc at))
+  three = omega arith
+
+  four : at + 4 ≡ suc (suc (suc (suc at)))
+  four = omega arith
+
+  pub sets_five : (a b c d e : ℕ) → set (set (set (set (set l at a) (at + 1) b) (at + 2) c) (at + 3) d) (at + 4) e ≡ sets l at (a ∷ b ∷ c ∷ d ∷ e ∷ [])
+  sets_five a b c d e = rw (one, two, three, four)
