@@ -2,7 +2,7 @@
 ghost use Rattle.std.specs.Prelude.{◌≡◌};
 ghost use Rattle.leaves.specs.Leaves.{Told, model_by, model_words, model_leaf};
 
-use crate::put::tell;
+use crate::put::{number, put};
 use error::Refusal;
 use profile::{TStdBranch, TStdStreamModel};
 
@@ -35,9 +35,15 @@ fn model_words(model: TStdStreamModel) -> [u64; 5]
 
 // Ruled out: words stored with a refusal; the words of a Main branch for a video stream.
 #[unsafe(no_mangle)]
-#[tactic(auto, unfolding(crate::specs::Leaves::model_leaf, crate::specs::Leaves::told_leaf))]
+#[tactic(auto, using(crate::proofs::Stored::stored_none), unfolding(crate::specs::Leaves::model_leaf))]
 pub extern "C" fn leaf_model(kind: u64, a: u64, b: u64, c: u64, out: &mut [u64]) -> u64
     ensures { Told (model_leaf (model_by kind a b c)) result out.old out.new }
 {
-    tell(model_by(kind, a, b, c).map(model_words), out)
+    match model_by(kind, a, b, c) {
+        Ok(model) => {
+            put(&model_words(model), out);
+            0
+        }
+        Err(refusal) => number(refusal),
+    }
 }
