@@ -1,11 +1,14 @@
--- Two refusals never share a code: number, place and PID give the refusal back.
+-- Two refusals never share a code: number, place and PID give the refusal back. Number 0 is told exactly where nothing was refused.
 -- Assumes nothing.
+use Rattle.std.specs.Prelude.{◌≤◌, ◌↔◌, Result, Ok, Err, true}
+use Rattle.std.specs.Result.{is_ok}
+use Rattle.std.proofs.Common.{arith}
 use mathlib.Core.Path.{◌≡◌, refl, sym, ap, ◌∙◌}
 use mathlib.Core.Bool.{cond}
 use lib.Dec.{eqb}
 use Rattle.error.specs.declared.Refusal.{Refusal}
 use Rattle.error.specs.declared.Code.{Code}
-use Rattle.error.specs.Code.{code_of}
+use Rattle.error.specs.Code.{code_of, code_told}
 
 -- the refusal of a code
 refusal_of : Code → Refusal
@@ -36,3 +39,28 @@ back (Refusal.QueueFull packet pid) = refl
 
 pub code_injective : (a b : Refusal) → code_of a ≡ code_of b → a ≡ b
 code_injective a b e = sym (back a) ∙ ap refusal_of e ∙ back b
+
+-- a refusal's number is never 0
+pub refused_number : (x : Refusal) → 1 ≤ (code_of x).number
+refused_number Refusal.OutsideLimits = omega arith
+refused_number Refusal.WorkTooShort = omega arith
+refused_number Refusal.RecordingTooLong = omega arith
+refused_number Refusal.NoPacketLayout = omega arith
+refused_number Refusal.TooFewPcrs = omega arith
+refused_number (Refusal.DiscontinuityBeforeRate n) = omega arith
+refused_number (Refusal.RepeatedPcr n) = omega arith
+refused_number (Refusal.ClockFull n) = omega arith
+refused_number (Refusal.RateOutsideLimits n) = omega arith
+refused_number (Refusal.QueueFull k pid) = omega arith
+
+-- ---- what is told of an outcome
+module _ {A : Type 0} where
+  -- number 0 exactly where nothing was refused
+  pub number_zero_iff : (o : Result A Refusal) → ((code_told o).number ≡ 0) ↔ (is_ok o ≡ true)
+  number_zero_iff (Ok a) = (λ z. refl, λ e. refl)
+  number_zero_iff (Err x) = (λ z. absurd (omega (arith, z, refused_number x)), λ e. absurd cc)
+
+  -- a refusal's number, place and PID exactly where it is the one
+  pub code_refused_iff : (o : Result A Refusal) (x : Refusal) → (code_told o ≡ code_of x) ↔ (o ≡ Err x)
+  code_refused_iff (Ok a) x = (λ e. absurd (omega (arith, ap (λ (k : Code). k.number) e, refused_number x)), λ e. absurd cc)
+  code_refused_iff (Err y) x = (λ e. ap Err (code_injective y x e), λ e. let same : y ≡ x = cc in ap code_of same)
