@@ -5,7 +5,8 @@ use Rattle.std.proofs.Common.{sym, ◌∙◌, subst, inl, inr, arith}
 use Rattle.std.proofs.Math.Path.{ap}
 use Rattle.std.proofs.Math.Seq.{take-append_seam, drop-append_seam}
 use Rattle.error.specs.declared.Refusal.{Refusal}
-use Rattle.error.specs.Code.{code_of}
+use Rattle.error.specs.Code.{code_of, code_told, code_numbered}
+use Rattle.error.proofs.Distinct.{refused_number, code_refused_iff}
 use Rattle.recording.specs.Content.{OnlyContent}
 use Rattle.recording.specs.Read.{read_of}
 use Rattle.report.specs.declared.TStdReport.{TStdReport}
@@ -18,8 +19,14 @@ use Rattle.demands.specs.Refused.{Completed, RefusedBy}
 use Rattle.demands.proofs.Refused as laws
 use Rattle.tstd.specs.Demands as tstd
 use Rattle.analyze.specs.Analyze.{Lent, outcome_for, result_for, report_for, row_for, Analyzed}
-use Rattle.analyze.specs.Answers.{room_of, chain_count, chains_in, surplus_in, Accepted, Refused, SameAnswer}
+use Rattle.analyze.specs.Answers.{room_of, chain_count, chains_in, surplus_in, Accepted, Refused, SameAnswer, SameCode}
 use Rattle.analyze.specs.Chains.{one_per_chain}
+
+-- ---- numbers
+-- told number 0 exactly where nothing is refused
+pub told_ok_iff : (told : Result Unit Refusal) → ((code_told told).number ≡ 0) ↔ (told ≡ Ok tt)
+told_ok_iff (Ok tt) = (λ z. refl, λ e. refl)
+told_ok_iff (Err x) = (λ z. absurd (omega (arith, z, refused_number x)), λ e. absurd cc)
 
 -- ---- one answer
 module _ (l : List ℕ) (c : TStdConfig) (lent left : Lent) (told : Result Unit Refusal) (is : Analyzed l c lent left told) where
@@ -103,6 +110,21 @@ module _ (l : List ℕ) (c : TStdConfig) (lent left : Lent) (told : Result Unit 
   pub refused_iff : (x : Refusal) → (told ≡ Err x) ↔ RefusedBy replay_limits c (room_of lent) l x
   refused_iff x = (λ e. condition_by x e finished, λ h. told_refused x ((tstd.refused_iff replay_limits c (room_of lent) l x).1 h))
 
+  -- number 0 comes exactly where all packets and ends run
+  pub number_zero_iff : ((code_told told).number ≡ 0) ↔ Completed replay_limits c (room_of lent) l
+  number_zero_iff = (λ z. accepted_iff.0 ((told_ok_iff told).0 z), λ h. (told_ok_iff told).1 (accepted_iff.1 h))
+
+  -- each number but 0, with its place and PID, comes exactly under its refusal's condition
+  pub number_refused_iff : (x : Refusal) → (code_told told ≡ code_of x) ↔ RefusedBy replay_limits c (room_of lent) l x
+  number_refused_iff x = (λ e. (refused_iff x).0 ((code_refused_iff told x).0 e), λ h. (code_refused_iff told x).1 ((refused_iff x).1 h))
+
+  -- what is told of an answer that is accepted, and of one that is refused
+  pub accepted_code : Accepted l c lent left told → code_told told ≡ code_numbered 0
+  accepted_code a = ap code_told a.ok
+
+  pub refused_code : (r : Refused l c lent left told) → code_told told ≡ code_of r.refusal
+  refused_code r = ap code_told r.err
+
 -- ---- the answers to two recordings, with one profile and one length of each part of work and row, whatever these and the report held before
 module _ (c : TStdConfig) (a b : List ℕ) (lent lent' left left' : Lent) (told told' : Result Unit Refusal) (is : Analyzed a c lent left told) (is' : Analyzed b c lent' left' told') (room : room_of lent ≡ room_of lent') where
   by_one : (o : Outcome) → outcome_for a c lent ≡ o → outcome_for b c lent' ≡ o → SameAnswer c told told' left left'
@@ -141,3 +163,24 @@ module _ (c : TStdConfig) (a b : List ℕ) (lent lent' left left' : Lent) (told 
   one_to_three n x few e =
       let condition = (refused_iff a c lent left told is x).0 e in
       e ∙ sym ((refused_iff b c lent' left' told' is' x).1 (rw (sym room) (alike n x few condition)))
+
+  -- answers that are the same are told alike
+  pub same_code : SameAnswer c told told' left left' → SameCode c told told' left left'
+  same_code same =
+      record {
+        one_code = ap code_told same.one_outcome;
+        one_report = λ z. same.one_report ((told_ok_iff told).0 z);
+        one_row = λ z. same.one_row ((told_ok_iff told).0 z);
+      }
+
+  -- demand 3 by what is told: recordings that differ only in content get one number, place and PID
+  pub blind_code : OnlyContent (streams_read c) a b → SameCode c told told' left left'
+  blind_code only = same_code (blind only)
+
+  three_by : length a ≡ length b → (t : Result Unit Refusal) → told ≡ t → 1 ≤ (code_told t).number → (code_told t).number ≤ 3 → told ≡ told'
+  three_by n (Ok tt) e some few = absurd (omega (arith, some))
+  three_by n (Err x) e some few = one_to_three n x few e
+
+  -- the same of the numbers told
+  pub number_one_to_three : length a ≡ length b → 1 ≤ (code_told told).number → (code_told told).number ≤ 3 → code_told told ≡ code_told told'
+  number_one_to_three n some few = ap code_told (three_by n told refl some few)

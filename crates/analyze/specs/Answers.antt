@@ -2,6 +2,7 @@
 use Rattle.std.specs.Prelude.{Result, Ok, Err}
 use Rattle.std.specs.Prelude.{ℕ, ◌≡◌, List, length, take, drop}
 use Rattle.error.specs.declared.Refusal.{Refusal}
+use Rattle.error.specs.Code.{code_told}
 use Rattle.report.specs.declared.TStdChainStats.{TStdChainStats}
 use Rattle.profile.specs.declared.config.TStdConfig.{TStdConfig}
 use Rattle.profile.specs.declared.work.WorkSize.{WorkSize}
@@ -51,3 +52,9 @@ pub record SameAnswer (c : TStdConfig) (told told' : Result Unit Refusal) (left 
   pub one_outcome : told ≡ told'
   pub one_report : told ≡ Ok tt → left.report ≡ left'.report
   pub one_row : told ≡ Ok tt → chains_in c left ≡ chains_in c left'
+
+-- the same by what is told: one number, place and PID; where the number is 0 also the whole report and the row's first records
+pub record SameCode (c : TStdConfig) (told told' : Result Unit Refusal) (left left' : Lent) : Type 0 where
+  pub one_code : code_told told ≡ code_told told'
+  pub one_report : (code_told told).number ≡ 0 → left.report ≡ left'.report
+  pub one_row : (code_told told).number ≡ 0 → chains_in c left ≡ chains_in c left'
