@@ -3,6 +3,7 @@
 pub mod Cursors
 pub mod Covering
 pub mod Stamps
+pub mod Taking
 pub mod Passing
 pub mod Build
 pub mod Packets

@@ -1,5 +1,6 @@
--- Packets that do not speak of the clock, by what their bytes say: passing one changes the start alone.
-use Rattle.std.proofs.Common.{◌≡◌, ℕ, ◌+◌, ◌-◌, Bool, true, false, cond, leb, List, [], refl, eq-eqb, ne_eqb, Option, Err, None, Result, Ok}
+-- Packets by what their bytes say: passing one that does not speak of the clock changes the start alone, and one on the PCR PID with a
+-- field passes by that field.
+use Rattle.std.proofs.Common.{◌≡◌, ℕ, ◌+◌, ◌-◌, Bool, true, false, cond, leb, List, [], refl, eq-eqb, ne_eqb, Option, Err, None, Some, Result, Ok}
 use lib.Ieee.{Float}
 use Rattle.packet.specs.declared.AdaptationField.{AdaptationField}
 use Rattle.packet.specs.declared.TsPacket.{TsPacket}
@@ -7,7 +8,8 @@ use Rattle.packet.specs.declared.TsError.{TsError}
 use Rattle.arrival.specs.declared.ClockPass.{ClockPass}
 use Rattle.arrival.specs.Samples.{field_on, Seen, seen_in}
 use Rattle.arrival.specs.Work.{never}
-use Rattle.arrival.specs.Pass.{take_samples, Passing, pass_seen, other_packet, pass_packet}
+use Rattle.arrival.specs.declared.IntervalsMut.{IntervalsMut}
+use Rattle.arrival.specs.Pass.{take_samples, Passing, pass_seen, other_packet, pass_field, pass_packet, Passes}
 
 -- ---- which field
 module _ (pcrPid : ℕ) {p : Result TsPacket TsError} where
@@ -45,3 +47,14 @@ module _ (depth : ℕ) (b : ClockPass) (times : List Float) (places : List ℕ) 
       → pass_packet pcrPid depth w p ≡ record { pass = other_packet b; times = times; places = places }
   unfolding pass_packet seen_in
   other_passes pcrPid p e = rw (e, other_passed _ refl) refl
+
+  -- one on the PCR PID with a field
+  pub field_passed : (pcrPid : ℕ) (p : Result TsPacket TsError) {f : AdaptationField} → field_on pcrPid p ≡ Some f
+      → pass_packet pcrPid depth w p ≡ pass_field depth w f.discontinuity_indicator f.pcr
+  unfolding pass_packet seen_in
+  field_passed pcrPid p e = rw e refl
+
+  pub field_passes : (pcrPid : ℕ) (p : Result TsPacket TsError) (r : ClockPass) (before after : IntervalsMut) {f : AdaptationField}
+      → field_on pcrPid p ≡ Some f
+      → Passes (pass_field depth w f.discontinuity_indicator f.pcr) r before after → Passes (pass_packet pcrPid depth w p) r before after
+  field_passes pcrPid p r before after e g = rw (field_passed pcrPid p e) g
