@@ -1,18 +1,51 @@
--- The search for the first entry of a list that is a given PID: what is found, and std's search.
+-- The search for the first entry of a list that is a given PID: the loop over the first n entries, what is found, and std's search.
 -- Assumes nothing.
-use Prim.Native.Nat.{ℕ, zero, suc, ◌+◌, ◌<◌}
+use Prim.Native.Nat.{ℕ, zero, suc, ◌+◌, ◌≤◌, ◌<◌}
 use mathlib.Core.Path.{◌≡◌, refl, sym, ◌∙◌}
 use mathlib.Core.Bool.{Bool, true, false, cond, not, ◌||◌, false≢true}
 use mathlib.Core.List.Memᴰ
 use mathlib.Core.List.{List, [], ◌∷◌, Memᴰ}
 use mathlib.Core.Logic.{◌⊎◌, inl, inr}
 use native.Mathlib.Omega.{arith}
-use borrow.Author.Tests.{eq-eqb, lt-ltb, eqb-true, eqb-false}
+use native.Mathlib.Numerals.{add-one}
+use borrow.Author.Tests.{eq-eqb, ne_eqb, lt-ltb, eqb-true, eqb-false}
 use lib.Dec.{eqb, ltb, leb-suc-suc}
-use lib.ListN.{length, get_or}
+use lib.ListN.{length, take, drop, get_or, drop_of_length-le}
+use lib.Seq.{drop-cons, get_or-take, length-take-le}
 use Rattle.std.specs.Prelude.{Option, Some, None}
 use Rattle.std.specs.List.{list_any, position, position_or_len}
 use Rattle.profile.specs.Owner.{contains, first_index}
+
+-- none of the first i of the n entries is the PID
+pub record Skipped (l : List ℕ) (n pid i : ℕ) : Type 0 where
+  pub reached : i ≤ n
+  pub size : length (take n l) ≡ n
+  pub rest : first_index (take n l) pid ≡ i + first_index (drop i (take n l)) pid
+
+module _ (l : List ℕ) (n pid : ℕ) where
+  pub skipped_none : n ≤ length l → Skipped l n pid 0
+  skipped_none h = record { reached = omega arith; size = length-take-le n l h; rest = omega arith }
+
+  module _ (i : ℕ) (s : Skipped l n pid i) (h : i < n) where
+    entry : drop i (take n l) ≡ get_or l i 0 ∷ drop (suc i) (take n l)
+    entry =
+        let inside : i < length (take n l) = omega (arith, s.size) in
+        drop-cons (take n l) i 0 inside ∙ rw (get_or-take n l i 0 h)
+
+    pub skipped_found : get_or l i 0 ≡ pid → i ≡ first_index (take n l) pid
+    unfolding first_index
+    skipped_found e = sym (s.rest ∙ rw (entry, eq-eqb (get_or l i 0) pid e) (omega arith))
+
+    pub skipped_next : (get_or l i 0 ≡ pid → ⊥) → Skipped l n pid (i + 1)
+    unfolding first_index
+    skipped_next e =
+        record { reached = omega arith; size = s.size; rest = s.rest ∙ rw (entry, ne_eqb (get_or l i 0) pid e, add-one) (omega arith) }
+
+  pub skipped_all : (i : ℕ) → Skipped l n pid i → n ≤ i → i ≡ first_index (take n l) pid
+  unfolding first_index
+  skipped_all i s h =
+      let none : length (take n l) ≤ i = omega (arith, s.size) in
+      sym (s.rest ∙ rw (drop_of_length-le (take n l) none) (omega arith))
 
 -- an entry is the PID exactly if the search ends before the length
 pub contains_index : (l : List ℕ) (pid : ℕ) → contains l pid ≡ ltb (first_index l pid) (length l)
