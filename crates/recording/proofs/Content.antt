@@ -101,7 +101,8 @@ pub before_payload : (s : Streams) (opens : ℕ → Open) (rests : ℕ → List 
     → content_in s opens rests w p j ≡ false
 unfolding payload_from content_in
 before_payload s opens rests w (Ok h) j l = and_first _ _ (lt-leb h.payload_start j l)
-before_payload s opens rests w (Err err) j l = refl
+before_payload s opens rests w (Err (TsError.Truncated t)) j l = refl
+before_payload s opens rests w (Err (TsError.BadSyncByte b)) j l = refl
 
 -- Where content begins in a packet's 188 bytes, by its fact.
 unfoldable pub content_from : Fact → ℕ
@@ -184,7 +185,8 @@ module _ (y : TsPacketLayout) (s : Streams) (l : List ℕ) (k : ℕ) (room : y.s
           (opens_at y l (suc k) p.pid)
           (payload_last y l k p is)
           (is_stream s p.pid)
-      go (Err err) is = sym (lt-leb 188 j b)
+      go (Err (TsError.Truncated t)) is = sym (lt-leb 188 j b)
+      go (Err (TsError.BadSyncByte c)) is = sym (lt-leb 188 j b)
 
 -- Document 01 on the bytes of a whole packet.
 module _ (y : TsPacketLayout) (s : Streams) (l : List ℕ) (k : ℕ) (room : y.sync_offset + 188 ≤ y.packet_size) (h : k < packets y l) where
