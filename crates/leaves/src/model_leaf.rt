@@ -39,6 +39,7 @@ fn model_words(model: TStdStreamModel) -> [u64; 5]
 pub extern "C" fn leaf_model(kind: u64, a: u64, b: u64, c: u64, out: &mut [u64]) -> u64
     ensures { Told (model_leaf (model_by kind a b c)) result out.old out.new }
 {
+    // A match in place of tell over map, by which the third word was stored in three pieces.
     match model_by(kind, a, b, c) {
         Ok(model) => {
             put(&model_words(model), out);
